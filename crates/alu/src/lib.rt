@@ -1,0 +1,184 @@
+// Sums, differences and logic with their flags, at 8 and 32 bits.
+ghost use mathlib.Core.Path.{_≡_};
+ghost use mathlib.Core.Bool.{Bool, true, false};
+ghost use Prim.Native.Nat.{_+_, _-_, _*_, _/_, _%_, _^_, _<_, _≤_};
+ghost use lib.Bits.{bitAnd, bitOr, bitXor};
+ghost use Rattle.alu.specs.Arithmetic.{bit, parity, sum, difference, logic, operation, operate, writes};
+
+// The six flags that arithmetic sets.
+pub struct Status {
+    pub cf: bool,
+    pub pf: bool,
+    pub af: bool,
+    pub zf: bool,
+    pub sf: bool,
+    pub of: bool,
+}
+
+pub struct Out {
+    pub value: u32,
+    pub status: Status,
+}
+
+pub fn even(x: u32) -> bool
+    ensures { λ r. ⌜ r ≡ parity x ⌝ }
+{
+    u32::count_ones(x % 256) % 2 == 0
+}
+
+fn one(c: bool) -> u32
+    ensures { λ r. ⌜ (r ≡ bit c) × (r ≤ 1) ⌝ }
+{
+    if c { 1 } else { 0 }
+}
+
+pub fn add32(a: u32, b: u32, c: bool) -> Out
+    ensures { λ r. ⌜ r ≡ sum 32 a b (bit c) ⌝ }
+{
+    let k = one(c);
+    let t = a as u64 + b as u64 + k as u64;
+    let r = (t % 0x1_0000_0000) as u32;
+    let n = 0x8000_0000 <= a;
+    let status = Status {
+        cf: 0x1_0000_0000 <= t,
+        pf: even(r),
+        af: 16 <= a % 16 + b % 16 + k,
+        zf: r == 0,
+        sf: 0x8000_0000 <= r,
+        of: (n == (0x8000_0000 <= b)) & (n != (0x8000_0000 <= r)),
+    };
+    Out { value: r, status }
+}
+
+pub fn sub32(a: u32, b: u32, c: bool) -> Out
+    ensures { λ r. ⌜ r ≡ difference 32 a b (bit c) ⌝ }
+{
+    let k = one(c);
+    let s = b as u64 + k as u64;
+    let r = ((0x1_0000_0000 + a as u64 - s) % 0x1_0000_0000) as u32;
+    let n = 0x8000_0000 <= a;
+    let status = Status {
+        cf: (a as u64) < s,
+        pf: even(r),
+        af: a % 16 < b % 16 + k,
+        zf: r == 0,
+        sf: 0x8000_0000 <= r,
+        of: (n != (0x8000_0000 <= b)) & (n != (0x8000_0000 <= r)),
+    };
+    Out { value: r, status }
+}
+
+pub fn logic32(r: u32, s: Status) -> Out
+    ensures { λ x. ⌜ x ≡ logic 32 s r ⌝ }
+{
+    let status = Status {
+        cf: false,
+        pf: even(r),
+        af: s.af,
+        zf: r == 0,
+        sf: 0x8000_0000 <= r,
+        of: false,
+    };
+    Out { value: r, status }
+}
+
+pub fn add8(a: u8, b: u8, c: bool) -> Out
+    ensures { λ r. ⌜ r ≡ sum 8 a b (bit c) ⌝ }
+{
+    let k = one(c);
+    let t = a as u32 + b as u32 + k;
+    let r = t % 256;
+    let n = 128 <= a;
+    let status = Status {
+        cf: 256 <= t,
+        pf: even(r),
+        af: 16 <= a as u32 % 16 + b as u32 % 16 + k,
+        zf: r == 0,
+        sf: 128 <= r,
+        of: (n == (128 <= b)) & (n != (128 <= r)),
+    };
+    Out { value: r, status }
+}
+
+pub fn sub8(a: u8, b: u8, c: bool) -> Out
+    ensures { λ r. ⌜ r ≡ difference 8 a b (bit c) ⌝ }
+{
+    let k = one(c);
+    let s = b as u32 + k;
+    let r = (256 + a as u32 - s) % 256;
+    let n = 128 <= a;
+    let status = Status {
+        cf: (a as u32) < s,
+        pf: even(r),
+        af: a as u32 % 16 < b as u32 % 16 + k,
+        zf: r == 0,
+        sf: 128 <= r,
+        of: (n != (128 <= b)) & (n != (128 <= r)),
+    };
+    Out { value: r, status }
+}
+
+pub fn logic8(r: u8, s: Status) -> Out
+    ensures { λ x. ⌜ x ≡ logic 8 s r ⌝ }
+{
+    let status = Status {
+        cf: false,
+        pf: even(r as u32),
+        af: s.af,
+        zf: r == 0,
+        sf: 128 <= r,
+        of: false,
+    };
+    Out { value: r as u32, status }
+}
+
+fn operate32(op: u32, a: u32, b: u32, s: Status) -> Out
+    ensures { λ r. ⌜ r ≡ operation op 32 a b s ⌝ }
+{
+    match op {
+        0 => add32(a, b, false),
+        1 => logic32(a | b, s),
+        2 => add32(a, b, s.cf),
+        3 => sub32(a, b, s.cf),
+        4 => logic32(a & b, s),
+        5 => sub32(a, b, false),
+        6 => logic32(a ^ b, s),
+        7 => sub32(a, b, false),
+        8 => logic32(a & b, s),
+        _ => Out { value: b, status: s },
+    }
+}
+
+fn operate8(op: u32, a: u8, b: u8, s: Status) -> Out
+    ensures { λ r. ⌜ r ≡ operation op 8 a b s ⌝ }
+{
+    match op {
+        0 => add8(a, b, false),
+        1 => logic8(a | b, s),
+        2 => add8(a, b, s.cf),
+        3 => sub8(a, b, s.cf),
+        4 => logic8(a & b, s),
+        5 => sub8(a, b, false),
+        6 => logic8(a ^ b, s),
+        7 => sub8(a, b, false),
+        8 => logic8(a & b, s),
+        _ => Out { value: b as u32, status: s },
+    }
+}
+
+// An operation of two operands, at a width.
+pub fn operate(op: u32, wide: bool, a: u32, b: u32, s: Status) -> Out
+    ensures { λ r. ⌜ r ≡ operate op wide a b s ⌝ }
+{
+    if wide {
+        return operate32(op, a, b, s);
+    }
+    operate8(op, (a % 256) as u8, (b % 256) as u8, s)
+}
+
+// Does the operation write its first operand?
+pub fn writes(op: u32) -> bool
+    ensures { λ r. ⌜ r ≡ writes op ⌝ }
+{
+    !((op == 7) | (op == 8))
+}
