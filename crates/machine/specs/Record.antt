@@ -45,9 +45,11 @@ lowByte old x = old / 256 * 256 + x % 256
 abbrev pub highByte : ℕ → ℕ → ℕ
 highByte old x = old / 65536 * 65536 + x % 256 * 256 + old % 256
 
+abbrev pub replaced : ℕ → ℕ → ℕ → ℕ
+replaced old n x = cond (isHigh n) (highByte old x) (lowByte old x)
+
 abbrev pub withByte : Registers → ℕ → ℕ → Registers
-withByte r n x =
-    withRegister r (n % 4) (cond (isHigh n) (highByte (register r (n % 4)) x) (lowByte (register r (n % 4)) x))
+withByte r n x = withRegister r (n % 4) (replaced (register r (n % 4)) n x)
 
 -- at a width: a dword (true) or a byte
 unfoldable pub readAt : Bool → Registers → ℕ → ℕ

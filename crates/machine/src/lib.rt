@@ -2,7 +2,7 @@
 ghost use mathlib.Core.Path.{_≡_};
 ghost use Prim.Native.Nat.{ℕ, _+_, _*_, _/_, _%_, _<_, _≤_};
 ghost use lib.ListN.{length, getD, set};
-ghost use Rattle.machine.specs.Record.{digit, register, withRegister, byteRegister, withByte, readAt, writeAt, flagsIn, pack, soundAt};
+ghost use Rattle.machine.specs.Record.{digit, register, withRegister, replaced, byteRegister, withByte, readAt, writeAt, flagsIn, pack, soundAt};
 use alu::Status;
 
 // What a step, a run or an audit answers. `numbered` in specs/Replies gives each its number.
@@ -81,6 +81,16 @@ fn change(a: &mut [u32], n: u32, x: u32)
     }
 }
 
+// A dword with one of its two low bytes replaced: the upper of them for codes 4 to 7.
+fn replaced(old: u32, n: u32, x: u32) -> u32
+    ensures { λ r. ⌜ r ≡ replaced old n x ⌝ }
+{
+    if n / 4 % 2 == 1 {
+        return old / 65536 * 65536 + x % 256 * 256 + old % 256;
+    }
+    old / 256 * 256 + x % 256
+}
+
 impl Registers {
     // A dword register; any number above 7 is none, and 0.
     pub fn read(self, n: u32) -> u32
@@ -95,10 +105,10 @@ impl Registers {
         ensures { λ x. ⌜ x ≡ byteRegister self n ⌝ }
     {
         let a = self.e;
-        if n / 4 % 2 == 0 {
-            return element(&a, n % 4) % 256;
+        if n / 4 % 2 == 1 {
+            return element(&a, n % 4) / 256 % 256;
         }
-        element(&a, n % 4) / 256 % 256
+        element(&a, n % 4) % 256
     }
 
     // The file with one dword register written.
@@ -116,12 +126,8 @@ impl Registers {
         ensures { λ q. ⌜ q ≡ withByte self n x ⌝ }
     {
         let mut a = self.e;
-        let old = element(&a, n % 4);
-        if n / 4 % 2 == 0 {
-            change(&mut a, n % 4, old / 256 * 256 + x % 256);
-        } else {
-            change(&mut a, n % 4, old / 65536 * 65536 + x % 256 * 256 + old % 256);
-        }
+        let x = replaced(element(&a, n % 4), n, x);
+        change(&mut a, n % 4, x);
         self.e = a;
         self
     }
