@@ -1,0 +1,54 @@
+ghost use mathlib.Core.Path.{_≡_};
+ghost use Prim.Native.Nat.{_<_};
+ghost use Rattle.conditions.specs.Conditions.{holds, rowHolds};
+
+use alu::Status;
+
+// A condition holds where one of the flags that its row names is set (less: SF and OF differ), or, if negated, where none is.
+pub struct Row {
+    pub o: bool,
+    pub c: bool,
+    pub z: bool,
+    pub s: bool,
+    pub p: bool,
+    pub less: bool,
+    pub negated: bool,
+}
+
+const ROWS: [Row; 16] = [
+    Row { o: true, c: false, z: false, s: false, p: false, less: false, negated: false },
+    Row { o: true, c: false, z: false, s: false, p: false, less: false, negated: true },
+    Row { o: false, c: true, z: false, s: false, p: false, less: false, negated: false },
+    Row { o: false, c: true, z: false, s: false, p: false, less: false, negated: true },
+    Row { o: false, c: false, z: true, s: false, p: false, less: false, negated: false },
+    Row { o: false, c: false, z: true, s: false, p: false, less: false, negated: true },
+    Row { o: false, c: true, z: true, s: false, p: false, less: false, negated: false },
+    Row { o: false, c: true, z: true, s: false, p: false, less: false, negated: true },
+    Row { o: false, c: false, z: false, s: true, p: false, less: false, negated: false },
+    Row { o: false, c: false, z: false, s: true, p: false, less: false, negated: true },
+    Row { o: false, c: false, z: false, s: false, p: true, less: false, negated: false },
+    Row { o: false, c: false, z: false, s: false, p: true, less: false, negated: true },
+    Row { o: false, c: false, z: false, s: false, p: false, less: true, negated: false },
+    Row { o: false, c: false, z: false, s: false, p: false, less: true, negated: true },
+    Row { o: false, c: false, z: true, s: false, p: false, less: true, negated: false },
+    Row { o: false, c: false, z: true, s: false, p: false, less: true, negated: true },
+];
+
+pub fn row_holds(row: Row, f: Status) -> bool
+    ensures { λ r. ⌜ r ≡ rowHolds row f ⌝ }
+{
+    let any = (row.o & f.of)
+        | (row.c & f.cf)
+        | (row.z & f.zf)
+        | (row.s & f.sf)
+        | (row.p & f.pf)
+        | (row.less & (f.sf != f.of));
+    any != row.negated
+}
+
+pub fn condition(n: usize, f: Status) -> bool
+    requires { ⌜ n < 16 ⌝ }
+    ensures { λ r. ⌜ r ≡ holds n f ⌝ }
+{
+    row_holds(ROWS[n], f)
+}
