@@ -1,0 +1,6 @@
+pub mod Same
+pub mod Audited
+pub mod Isolation
+pub mod Kept
+pub mod Ring3
+pub mod Noninterference

@@ -1,0 +1,4 @@
+pub mod Guarded
+pub mod Answers
+pub mod Kept
+pub mod Twins
