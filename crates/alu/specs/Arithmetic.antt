@@ -120,6 +120,24 @@ mov = 9
 abbrev pub writes : ℕ → Bool
 writes op = not (eqb op cmp || eqb op test)
 
+-- ---- the operations of one operand, by number: INC and DEC keep CF, NOT keeps every flag, NEG is 0 - a
+
+abbrev pub keepCarry : Status → Status → Status
+keepCarry s t = record { cf = s .cf; pf = t .pf; af = t .af; zf = t .zf; sf = t .sf; of = t .of }
+
+abbrev pub increment : ℕ → ℕ → Status → Out
+increment w a s = record { value = sumValue w a 1 0; status = keepCarry s (sumStatus w a 1 0) }
+
+abbrev pub decrement : ℕ → ℕ → Status → Out
+decrement w a s = record { value = differenceValue w a 1 0; status = keepCarry s (differenceStatus w a 1 0) }
+
+abbrev pub inverted : ℕ → ℕ → Status → Out
+inverted w a s = record { value = 2 ^ w - 1 - a; status = s }
+
+-- INC 0, DEC 1, NOT 2; any other is NEG
+unfoldable pub single : ℕ → ℕ → ℕ → Status → Out
+single op w a s = getD (increment w a s ∷ decrement w a s ∷ inverted w a s ∷ []) op (difference w 0 a 0)
+
 -- ---- the two widths: dwords (true) and bytes
 
 abbrev pub bits : Bool → ℕ
@@ -132,3 +150,10 @@ low wide x = x % 2 ^ bits wide
 
 unfoldable pub operate : ℕ → Bool → ℕ → ℕ → Status → Out
 operate op wide a b s = operation op (bits wide) (low wide a) (low wide b) s
+
+unfoldable pub operateOne : ℕ → Bool → ℕ → Status → Out
+operateOne op wide a s = single op (bits wide) (low wide a) s
+
+-- a byte with its sign, as a dword
+abbrev pub signedByte : ℕ → ℕ
+signedByte x = cond (ltb x 128) x (x + 4294967040)

@@ -3,7 +3,7 @@ ghost use mathlib.Core.Path.{_≡_};
 ghost use mathlib.Core.Bool.{Bool, true, false};
 ghost use Prim.Native.Nat.{_+_, _-_, _*_, _/_, _%_, _^_, _<_, _≤_};
 ghost use lib.Bits.{bitAnd, bitOr, bitXor};
-ghost use Rattle.alu.specs.Arithmetic.{bit, parity, sum, difference, logic, operation, operate, writes};
+ghost use Rattle.alu.specs.Arithmetic.{bit, parity, sum, difference, logic, operation, operate, writes, keepCarry, single, operateOne, signedByte};
 
 // The six flags that arithmetic sets.
 pub struct Status {
@@ -181,4 +181,69 @@ pub fn writes(op: u32) -> bool
     ensures { λ r. ⌜ r ≡ writes op ⌝ }
 {
     !((op == 7) | (op == 8))
+}
+
+// The status with CF as it was before.
+fn keep_carry(s: Status, t: Status) -> Status
+    ensures { λ r. ⌜ r ≡ keepCarry s t ⌝ }
+{
+    let mut r = t;
+    r.cf = s.cf;
+    r
+}
+
+fn single32(op: u32, a: u32, s: Status) -> Out
+    ensures { λ r. ⌜ r ≡ single op 32 a s ⌝ }
+{
+    if op == 0 {
+        let o = add32(a, 1, false);
+        let t = o.status;
+        return Out { value: o.value, status: keep_carry(s, t) };
+    }
+    if op == 1 {
+        let o = sub32(a, 1, false);
+        let t = o.status;
+        return Out { value: o.value, status: keep_carry(s, t) };
+    }
+    if op == 2 {
+        return Out { value: 0xffff_ffff - a, status: s };
+    }
+    sub32(0, a, false)
+}
+
+fn single8(op: u32, a: u8, s: Status) -> Out
+    ensures { λ r. ⌜ r ≡ single op 8 a s ⌝ }
+{
+    if op == 0 {
+        let o = add8(a, 1, false);
+        let t = o.status;
+        return Out { value: o.value, status: keep_carry(s, t) };
+    }
+    if op == 1 {
+        let o = sub8(a, 1, false);
+        let t = o.status;
+        return Out { value: o.value, status: keep_carry(s, t) };
+    }
+    if op == 2 {
+        return Out { value: 255 - a as u32, status: s };
+    }
+    sub8(0, a, false)
+}
+
+// An operation of one operand, at a width.
+pub fn operate_one(op: u32, wide: bool, a: u32, s: Status) -> Out
+    ensures { λ r. ⌜ r ≡ operateOne op wide a s ⌝ }
+{
+    if wide {
+        return single32(op, a, s);
+    }
+    single8(op, (a % 256) as u8, s)
+}
+
+// A byte with its sign, as a dword.
+pub fn signed_byte(x: u32) -> u32
+    requires { ⌜ x < 256 ⌝ }
+    ensures { λ r. ⌜ r ≡ signedByte x ⌝ }
+{
+    if x < 128 { x } else { x + 4294967040 }
 }

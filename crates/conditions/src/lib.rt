@@ -1,5 +1,5 @@
+// The sixteen conditions: a constant row for each, read by Jcc and SETcc alike.
 ghost use mathlib.Core.Path.{_≡_};
-ghost use Prim.Native.Nat.{_<_};
 ghost use Rattle.conditions.specs.Conditions.{holds, rowHolds};
 
 use alu::Status;
@@ -46,9 +46,12 @@ pub fn row_holds(row: Row, f: Status) -> bool
     any != row.negated
 }
 
-pub fn condition(n: usize, f: Status) -> bool
-    requires { ⌜ n < 16 ⌝ }
+// Does the condition hold? Numbers above 15 name none.
+pub fn condition(n: u32, f: Status) -> bool
     ensures { λ r. ⌜ r ≡ holds n f ⌝ }
 {
-    row_holds(ROWS[n], f)
+    if n < 16 {
+        return row_holds(ROWS[n as usize], f);
+    }
+    false
 }

@@ -129,3 +129,7 @@ sound m r = soundAt (length m) r
 -- what an instruction works on
 abbrev pub coreOf : Cpu → Core
 coreOf r = record { regs = r .regs; eip = r .eip; flags = flagsIn (r .eflags) }
+
+-- the record with another core: CR0, CR2, CR3, the ring and IOPL stay
+abbrev pub withCore : Cpu → Core → Cpu
+withCore r k = record { regs = k .regs; eip = k .eip; eflags = pack (r .eflags) (k .flags); control = r .control }

@@ -7,7 +7,7 @@ use Rattle.machine.specs.declared.Core.{Core}
 use Rattle.machine.specs.declared.Cpu.{Cpu}
 use Rattle.machine.specs.declared.Reply.{Reply}
 use Rattle.machine.specs.declared.Reply.the-variants.{Done, BadRecord, Spent}
-use Rattle.machine.specs.Record.{Mem, sound, pack, iopl, coreOf}
+use Rattle.machine.specs.Record.{Mem, sound, iopl, coreOf, withCore}
 use Rattle.machine.specs.Replies.{isDone}
 use Rattle.machine.specs.Paging.{View, view}
 use Rattle.machine.specs.Commit.{Touch, Store, commit}
@@ -30,7 +30,7 @@ pub record Outcome : Type 0 where
 unfoldable pub settle : Mem → Cpu → Plan → Outcome
 settle m r (Finish k ts ss) = record {
   reply = Done;
-  cpu = record { regs = k .regs; eip = k .eip; eflags = pack (r .eflags) (k .flags); control = r .control };
+  cpu = withCore r k;
   mem = commit m (r .control) ts ss;
 }
 settle m r (Stop q) = record { reply = q; cpu = r; mem = m }

@@ -2,7 +2,8 @@
 ghost use mathlib.Core.Path.{_≡_};
 ghost use Prim.Native.Nat.{ℕ, _+_, _*_, _/_, _%_, _<_, _≤_};
 ghost use lib.ListN.{length, getD, set};
-ghost use Rattle.machine.specs.Record.{digit, register, withRegister, replaced, byteRegister, withByte, readAt, writeAt, flagsIn, pack, soundAt};
+ghost use Rattle.machine.specs.Record.{digit, register, withRegister, replaced, byteRegister, withByte, readAt, writeAt, flagsIn, pack, soundAt, coreOf, withCore};
+ghost use Rattle.machine.specs.Replies.{isDone};
 use alu::Status;
 
 // What a step, a run or an audit answers. `numbered` in specs/Replies gives each its number.
@@ -152,7 +153,8 @@ impl Registers {
     }
 }
 
-fn one(c: bool, weight: u32) -> u32
+// The weight of a flag that is set, 0 of one that is clear.
+pub fn weighed(c: bool, weight: u32) -> u32
     requires { ⌜ weight ≤ 2048 ⌝ }
     ensures { λ r. ⌜ (r ≡ weight * digit c) × (r ≤ weight) ⌝ }
 {
@@ -179,8 +181,8 @@ pub fn pack(e: u32, f: Flags) -> u32
     ensures { λ r. ⌜ r ≡ pack e f ⌝ }
 {
     let s = f.status;
-    let low = 2 + one(s.cf, 1) + one(s.pf, 4) + one(s.af, 16) + one(s.zf, 64) + one(s.sf, 128);
-    low + one(f.interrupt, 512) + one(f.direction, 1024) + one(s.of, 2048) + e / 4096 % 4 * 4096
+    let low = 2 + weighed(s.cf, 1) + weighed(s.pf, 4) + weighed(s.af, 16) + weighed(s.zf, 64) + weighed(s.sf, 128);
+    low + weighed(f.interrupt, 512) + weighed(f.direction, 1024) + weighed(s.of, 2048) + e / 4096 % 4 * 4096
 }
 
 // Is the record sound, with a memory of n bytes?
@@ -195,4 +197,28 @@ pub fn sound(n: usize, c: Cpu) -> bool
     let cr3 = (k.cr3 % 8 == 0) & (k.cr3 / 32 % 128 == 0);
     let flags = (e / 2 % 2 == 1) & (e / 8 % 2 == 0) & (e / 32 % 2 == 0) & (e / 256 % 2 == 0) & (e < 16384);
     size & ring & cr0 & cr3 & flags
+}
+
+// What an instruction works on.
+pub fn core_of(c: Cpu) -> Core
+    ensures { λ r. ⌜ r ≡ coreOf c ⌝ }
+{
+    let regs = c.regs;
+    Core { regs, eip: c.eip, flags: unpack(c.eflags) }
+}
+
+// The record with another core.
+pub fn with_core(c: Cpu, k: Core) -> Cpu
+    ensures { λ r. ⌜ r ≡ withCore c k ⌝ }
+{
+    let regs = k.regs;
+    let f = k.flags;
+    let control = c.control;
+    Cpu { regs, eip: k.eip, eflags: pack(c.eflags, f), control }
+}
+
+pub fn is_done(q: Reply) -> bool
+    ensures { λ r. ⌜ r ≡ isDone q ⌝ }
+{
+    if let Reply::Done = q { true } else { false }
 }

@@ -61,34 +61,6 @@ module _ (m : Mem) (size : length m % 4096 ≡ 0) (c : Control) (w : Bool) (l j 
       by true on = rw (on, hd, ht) (reach-on (length m) size c w l j p fits (pageOf m c l) (rw on at e))
       by false on = rw on (exists-on (length m) size c w l j p fits l refl (rw on at e))
 
--- an address keeps its place in the page
-exists-offset : (n q p : ℕ) → exists n q ≡ At p → q ≡ p
-unfolding ask
-exists-offset n q p e = by (decLt q n)
-  where
-    by : Dec (q < n) → q ≡ p
-    by (yes k) = at-is (rw (lt-ltb q n k) at e)
-    by (no k) = let k′ : n ≤ q = omega arith in absurd (not-at (rw (le-ltb q n k′) at e))
-
-ask-offset : (n : ℕ) (b : Bool) (r : Reply) (q p : ℕ) → ask b r (exists n q) ≡ At p → q ≡ p
-unfolding ask
-ask-offset n true r q p e = exists-offset n q p e
-ask-offset n false r q p e = absurd (not-at e)
-
-reach-offset : (n : ℕ) (c : Control) (w : Bool) (l p : ℕ) (f : Page) → reach n c w l f ≡ At p → p % 4096 ≡ l % 4096
-unfolding reach
-reach-offset n c w l p (Beyond a) e = absurd (not-at e)
-reach-offset n c w l p Absent e = absurd (not-at e)
-reach-offset n c w l p (Mapped us rw′ f a b) e = let h : f * 4096 + offset l ≡ p = ask-offset n (rights c w us rw′) _ _ _ e in omega arith
-
-pub same-offset : (m : Mem) (c : Control) (w : Bool) (l p : ℕ) → translate m c w l ≡ At p → p % 4096 ≡ l % 4096
-unfolding translate
-same-offset m c w l p e = by (paging c) refl
-  where
-    by : (g : Bool) → paging c ≡ g → p % 4096 ≡ l % 4096
-    by true on = reach-offset (length m) c w l p (pageOf m c l) (rw on at e)
-    by false on = let h : l ≡ p = exists-offset (length m) l p (rw on at e) in omega arith
-
 -- ---- the marks of a page are those of any of its bytes
 
 module _ (n : ℕ) (size : n % 4096 ≡ 0) (c : Control) (w : Bool) (l l′ : ℕ) (ps : List Patch) where

@@ -5,7 +5,7 @@ ghost use Prim.Native.Nat.{ℕ, _+_, _*_, _/_, _%_, _<_, _≤_, _^_};
 ghost use lib.ListN.{length};
 ghost use lib.Dec.{eqb};
 ghost use Rattle.machine.specs.Record.{at};
-ghost use Rattle.machine.specs.Paging.{dwordAt, rights, pageFault};
+ghost use Rattle.machine.specs.Paging.{dwordAt, slot, rights, pageFault};
 ghost use Rattle.paging.specs.Walked.{OnPage, Flat, Walked};
 use machine::Reply;
 use machine::Control;
@@ -48,7 +48,7 @@ pub fn byte_at(mem: &[u8], i: usize) -> u32
 }
 
 fn slow(mem: &[u8], i: usize) -> u32
-    requires { ⌜ i < 2 ^ 32 ⌝ }
+    requires { ⌜ i < 2 ^ 46 ⌝ }
     ensures { λ r. ⌜ r ≡ dwordAt (now (mem .entry)) i ⌝ }
 {
     byte_at(mem, i) + 256 * byte_at(mem, i + 1) + 65536 * byte_at(mem, i + 2) + 16777216 * byte_at(mem, i + 3)
@@ -61,12 +61,26 @@ fn fast(mem: &[u8], i: usize) -> u32
     wide(mem[i]) + 256 * wide(mem[i + 1]) + 65536 * wide(mem[i + 2]) + 16777216 * wide(mem[i + 3])
 }
 
-// The dword at a physical address: bytes past the end are 0.
+// The dword at an index: bytes past the end are 0.
+fn dword(mem: &[u8], i: usize) -> u32
+    requires { ⌜ i < 2 ^ 46 ⌝ }
+    ensures { λ r. ⌜ r ≡ dwordAt (now (mem .entry)) i ⌝ }
+{
+    if i + 3 < mem.len() { fast(mem, i) } else { slow(mem, i) }
+}
+
+// The dword at a physical address.
 pub fn dword_at(mem: &[u8], p: Physical) -> u32
     ensures { λ r. ⌜ r ≡ dwordAt (now (mem .entry)) (p .0) ⌝ }
 {
-    let i = p.0 as usize;
-    if i + 3 < mem.len() { fast(mem, i) } else { slow(mem, i) }
+    dword(mem, p.0 as usize)
+}
+
+// Entry i of the table in frame f, wherever that lies.
+pub fn entry(mem: &[u8], f: u32, i: u32) -> u32
+    ensures { λ r. ⌜ r ≡ dwordAt (now (mem .entry)) (slot f i) ⌝ }
+{
+    dword(mem, f as usize * 4096 + i as usize * 4)
 }
 
 fn allowed(c: Control, w: bool, us: bool, rw: bool) -> bool

@@ -7,67 +7,67 @@ use Rattle.machine.proofs.pack.Statement.{statement}
 use Rattle.machine.proofs.pack.Tie as tie
 use Rattle.machine.proofs.pack.Reads as reads
 use Rattle.machine.proofs.pack.Lts as lts
-use Rattle.machine.proofs.one.Reads as one-reads
+use Rattle.machine.proofs.weighed.Reads as weighed-reads
 
 -- src/lib.rt:176:19
-one-requires : tie.Need-one-requires
-one-requires c κs = search needs
+weighed-requires : tie.Need-weighed-requires
+weighed-requires c κs = search needs
 
 -- src/lib.rt:176:15
 add-low : tie.Need-add-low
 add-low c = search needs
 
 -- src/lib.rt:176:34
-one-requires-2 : tie.Need-one-requires-2
-one-requires-2 c κs = search needs
+weighed-requires-2 : tie.Need-weighed-requires-2
+weighed-requires-2 c κs = search needs
 
 -- src/lib.rt:176:15
 add-low-2 : tie.Need-add-low-2
 add-low-2 c = search needs
 
 -- src/lib.rt:176:49
-one-requires-3 : tie.Need-one-requires-3
-one-requires-3 c κs = search needs
+weighed-requires-3 : tie.Need-weighed-requires-3
+weighed-requires-3 c κs = search needs
 
 -- src/lib.rt:176:15
 add-low-3 : tie.Need-add-low-3
 add-low-3 c = search needs
 
 -- src/lib.rt:176:65
-one-requires-4 : tie.Need-one-requires-4
-one-requires-4 c κs = search needs
+weighed-requires-4 : tie.Need-weighed-requires-4
+weighed-requires-4 c κs = search needs
 
 -- src/lib.rt:176:15
 add-low-4 : tie.Need-add-low-4
 add-low-4 c = search needs
 
 -- src/lib.rt:176:81
-one-requires-5 : tie.Need-one-requires-5
-one-requires-5 c κs = search needs
+weighed-requires-5 : tie.Need-weighed-requires-5
+weighed-requires-5 c κs = search needs
 
 -- src/lib.rt:176:15
 add-low-5 : tie.Need-add-low-5
 add-low-5 c = search needs
 
 -- src/lib.rt:177:11
-one-requires-6 : tie.Need-one-requires-6
-one-requires-6 c κs = search needs
+weighed-requires-6 : tie.Need-weighed-requires-6
+weighed-requires-6 c κs = search needs
 
 -- src/lib.rt:177:5
 add-result : tie.Need-add-result
 add-result c = search needs
 
 -- src/lib.rt:177:35
-one-requires-7 : tie.Need-one-requires-7
-one-requires-7 c κs = search needs
+weighed-requires-7 : tie.Need-weighed-requires-7
+weighed-requires-7 c κs = search needs
 
 -- src/lib.rt:177:5
 add-result-2 : tie.Need-add-result-2
 add-result-2 c = search needs
 
 -- src/lib.rt:177:60
-one-requires-8 : tie.Need-one-requires-8
-one-requires-8 c κs = search needs
+weighed-requires-8 : tie.Need-weighed-requires-8
+weighed-requires-8 c κs = search needs
 
 -- src/lib.rt:177:5
 add-result-3 : tie.Need-add-result-3
@@ -84,27 +84,27 @@ add-result-4 c = search needs
 -- src/lib.rt:172:1
 returns : tie.Need-returns
 unfolding pack
-returns c = omega (arith, (c .before .before .before .before .before .before .before .one .ensures .0), (c .before .before .before .before .before .before .one2 .ensures .0), (c .before .before .before .before .before .one3 .ensures .0), (c .before .before .before .before .one4 .ensures .0), (c .before .before .before .one5 .ensures .0), (c .before .before .one6 .ensures .0), (c .before .one7 .ensures .0), (c .one8 .ensures .0))
+returns c = omega (arith, (c .before .before .before .before .before .before .before .weighed .ensures .0), (c .before .before .before .before .before .before .weighed2 .ensures .0), (c .before .before .before .before .before .weighed3 .ensures .0), (c .before .before .before .before .weighed4 .ensures .0), (c .before .before .before .weighed5 .ensures .0), (c .before .before .weighed6 .ensures .0), (c .before .weighed7 .ensures .0), (c .weighed8 .ensures .0))
 
 pub pack-spec : {M : Type 1} → statement M
 pack-spec =
     tie.close
     (tie.spec
-    one-requires
+    weighed-requires
     add-low
-    one-requires-2
+    weighed-requires-2
     add-low-2
-    one-requires-3
+    weighed-requires-3
     add-low-3
-    one-requires-4
+    weighed-requires-4
     add-low-4
-    one-requires-5
+    weighed-requires-5
     add-low-5
-    one-requires-6
+    weighed-requires-6
     add-result
-    one-requires-7
+    weighed-requires-7
     add-result-2
-    one-requires-8
+    weighed-requires-8
     add-result-3
     mul-result
     add-result-4

@@ -1,0 +1,4 @@
+pub mod First
+pub mod Rights
+pub mod Held
+pub mod Answers
