@@ -23,7 +23,7 @@ use Rattle.paging.proofs.Pages.{same-page}
 use Rattle.access.specs.declared.Trail.{Trail}
 use Rattle.access.specs.declared.Place.{Place}
 use Rattle.access.specs.declared.Place.the-variants.{Nowhere, Byte, Near, Across}
-use Rattle.access.specs.Located.{asked, span, trailMarks, putByte, placed, puts, Held, TrailOk, refusalOf}
+use Rattle.access.specs.Located.{asked, span, trailMarks, putByte, placed, puts, Held, TrailOk, refusalOf, nowhere}
 use Rattle.access.proofs.Marks.{patches-append, touched-one, span-marks, page-marks}
 
 -- ---- a translation that the code made, at the address and in the case at hand
@@ -81,7 +81,7 @@ two-pages w k j ps qs h h′ x = (λ i. patches (sym h′ i) (patches (sym h i) 
 
 -- ---- accesses found
 
-pub nothing-held : (m : Mem) (c : Control) → Held m c Nothing (record { place = Nowhere; value = 0; write = false; trail = record { first = None; last = None } })
+pub nothing-held : (m : Mem) (c : Control) → Held m c Nothing nowhere
 unfolding access storesOf touched written trailMarks patchesOf puts
 nothing-held m c = record {
   does = λ g. λ i. ok 0 (record { fetched = g .fetched; touches = sym (append-nil (g .touches)) i; stores = g .stores });

@@ -6,6 +6,9 @@ use Rattle.access.proofs.locate.Tie as tie
 enum-told : tie.Need-enum-told
 enum-told c = search needs
 
+nowhere-requires : tie.Need-nowhere-requires
+nowhere-requires c κs = search needs
+
 enum-known-want : tie.Need-enum-known-want
 enum-known-want c = search needs
 
@@ -19,7 +22,7 @@ find-requires-2 : tie.Need-find-requires-2
 find-requires-2 c κs = search needs
 
 returns : tie.Need-returns
-returns c = rw (c .enum-told .given .1) (nothing-held _ _)
+returns c = rw (c .before .enum-told .given .1, c .nowhere .ensures) (nothing-held _ _)
 
 returns-2 : tie.Need-returns-2
 returns-2 c = rw (c .before .before .want .given .1) (c .find .ensures)
@@ -32,6 +35,7 @@ locate-spec =
     tie.close
     (tie.spec
     enum-told
+    nowhere-requires
     enum-known-want
     find-requires
     enum-known-want-2
