@@ -22,7 +22,7 @@ use Rattle.paging.specs.Walked.{Walked, patchesOf, marksIn, translationOf}
 use Rattle.paging.proofs.Pages.{same-page}
 use Rattle.access.specs.declared.Trail.{Trail}
 use Rattle.access.specs.declared.Place.{Place}
-use Rattle.access.specs.declared.Place.the-variants.{Nowhere, Byte, Near, Across}
+use Rattle.access.specs.declared.Place.the-variants.{Byte, Near, Across}
 use Rattle.access.specs.Located.{asked, span, trailMarks, putByte, placed, puts, Held, TrailOk, refusalOf, nowhere}
 use Rattle.access.proofs.Marks.{patches-append, touched-one, span-marks, page-marks}
 

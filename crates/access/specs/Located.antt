@@ -1,6 +1,6 @@
 -- An access that was found, and what is left of it in memory.
 -- Assumes nothing.
-use Prim.Native.Nat.{ℕ, zero, suc, _+_, _*_, _/_, _%_}
+use Prim.Native.Nat.{ℕ, zero, suc, _+_, _/_, _%_}
 use mathlib.Core.Path.{_≡_}
 use mathlib.Core.Bool.{Bool, true, false, cond}
 use mathlib.Core.List.{List, [], _∷_, _++_}
@@ -12,8 +12,7 @@ use Rattle.machine.specs.declared.Want.{Want}
 use Rattle.machine.specs.declared.Want.the-variants.{Nothing, Read, Write}
 use Rattle.machine.specs.Paging.{view}
 use Rattle.machine.specs.Commit.{Patch, Touch, patches, touched, written}
-use Rattle.machine.specs.Act.{Log, Res, ok, refuse, access, noting, touch, storesOf}
-use Rattle.paging.specs.declared.Physical.{Physical}
+use Rattle.machine.specs.Act.{Log, ok, refuse, access, noting, touch, storesOf}
 use Rattle.paging.specs.declared.Marks.the-variants.{None}
 use Rattle.paging.specs.declared.Translated.{Translated}
 use Rattle.paging.specs.declared.Translated.the-variants.{Reached, Denied}

@@ -1,5 +1,5 @@
 -- The operations that have no number of their own are MOV, or NEG with one operand, and a dword is its own low part. Assumes nothing.
-use Prim.Native.Nat.{ℕ, zero, suc, _%_, _≤_, _<_}
+use Prim.Native.Nat.{ℕ, zero, suc, _≤_, _<_}
 use native.Mathlib.Omega.{arith}
 use mathlib.Core.Logic.{_≢_}
 use native.Mathlib.Nat.{mod-eq-of-lt}

@@ -1,7 +1,7 @@
 -- Arithmetic with its flags, over the width w in bits: operands a and b are below 2 ^ w, and c is the carry or borrow in, 0 or 1
 -- (document 01, "Flags and numbers").
 -- Assumes nothing.
-use Prim.Native.Nat.{ℕ, _+_, _-_, _*_, _/_, _%_, _^_}
+use Prim.Native.Nat.{ℕ, _+_, _-_, _*_, _%_, _^_}
 use mathlib.Core.Bool.{Bool, true, false, not, _&&_, _||_, cond}
 use mathlib.Core.List.{List, [], _∷_}
 use lib.ListN.{getD}

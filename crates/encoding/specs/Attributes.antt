@@ -1,7 +1,7 @@
 -- What an opcode b of class c says of its instruction, with the ModRM byte m and its reg field (document 01, "Encodings built").
 -- Assumes nothing.
 use Prim.Native.Nat.{ℕ, _/_, _%_}
-use mathlib.Core.Bool.{Bool, true, false, cond, not, _&&_, _||_}
+use mathlib.Core.Bool.{Bool, cond, not, _&&_, _||_}
 use lib.Dec.{ltb, leb, eqb}
 use Rattle.encoding.specs.Families.{combineTo, combineFrom, combineImmediate, unary, shiftBy, shiftByCl, accumulate, multiplyBy, multiplyInto, extend, addressOf, swap, push, pushNumber, pop, setOn, jumpOn, jump, jumpTo, call, callTo, return as return′, loop, flag, transfer, convert, trap, halt}
 use Rattle.encoding.specs.Encodings.{arithmeticTo, arithmeticFrom, arithmeticAccumulator, arithmeticGroup, testTo, testAccumulator, unaryGroup, moveTo, moveFrom, moveFromOffset, moveToOffset, moveRegister, moveGroup, extendZero, extendSign, loadAddress, exchange, exchangeAccumulator, incrementRegister, decrementRegister, byteGroup, dwordGroup, pushRegister, pushImmediate, popRegister, popGroup, shiftImmediate, shiftOne, shiftCl, multiplyImmediate, multiplyRegister, widen, jumpIf, jumpIfNear, setIf, jumpBy, callBy, returnPlain, returnPopping, loopBy, flagOperation, flagTransfer, breakpoint, interrupt}

@@ -1,7 +1,6 @@
 -- A division, by what the quotient says. Assumes nothing.
 use Prim.Native.Nat.{ℕ}
-use mathlib.Core.Path.{_≡_, refl, sym, ap, _∙_}
-use mathlib.Core.Bool.{Bool}
+use mathlib.Core.Path.{_≡_, sym, ap, _∙_}
 use lib.Dec.{eqb}
 use Rattle.machine.specs.declared.Core.{Core}
 use Rattle.machine.specs.declared.Registers.{Registers}

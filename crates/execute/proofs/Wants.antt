@@ -1,9 +1,9 @@
 -- The operand's access, by cases. Assumes nothing.
 use Prim.Native.Nat.{ℕ}
 use mathlib.Core.Path.{_≡_, ap, sym, _∙_}
-use mathlib.Core.Bool.{Bool, true, false, cond}
+use mathlib.Core.Bool.{Bool, false, cond}
 use Rattle.machine.specs.declared.Registers.{Registers}
-use Rattle.machine.specs.declared.Want.the-variants.{Nothing, Read, Write}
+use Rattle.machine.specs.declared.Want.the-variants.{Nothing}
 use Rattle.encoding.specs.declared.Instruction.{Instruction}
 use Rattle.execute.specs.Operands.{address, memoryWant, operandWant}
 

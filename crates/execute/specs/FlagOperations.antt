@@ -1,19 +1,12 @@
 -- CMC CLC STC CLI STI CLD STD, SAHF and LAHF.
 -- Assumes nothing.
-use Prim.Native.Nat.{ℕ, _+_, _*_, _/_, _%_}
-use mathlib.Core.Bool.{Bool, true, false, cond, not, _&&_, _||_}
-use lib.Dec.{ltb, leb, eqb}
-use Rattle.machine.specs.declared.Registers.{Registers}
+use Prim.Native.Nat.{ℕ, _+_, _*_, _%_}
+use mathlib.Core.Bool.{Bool, true, false, cond, not}
+use lib.Dec.{eqb}
 use Rattle.machine.specs.declared.Flags.{Flags}
 use Rattle.machine.specs.declared.Core.{Core}
-use Rattle.machine.specs.declared.Reply.{Reply}
-use Rattle.machine.specs.declared.Reply.the-variants.{Done, Fault, Trap, Halt}
-use Rattle.machine.specs.declared.Want.{Want}
-use Rattle.machine.specs.declared.Want.the-variants.{Nothing, Read, Write}
-use Rattle.machine.specs.Record.{wrap, digit, register, withRegister, byteRegister, withByte, readAt, writeAt}
+use Rattle.machine.specs.Record.{digit, byteRegister, withByte}
 use Rattle.alu.specs.declared.Status.{Status}
-use Rattle.alu.specs.declared.Out.{Out}
-use Rattle.encoding.specs.declared.Operand.{Operand}
 use Rattle.encoding.specs.declared.Instruction.{Instruction}
 use Rattle.execute.specs.declared.Effect.{Effect}
 use Rattle.machine.specs.Record.{has}

@@ -1,18 +1,17 @@
 -- Operands and effects: where an operand lies, what it is worth, what becomes of the record.
 -- Assumes nothing.
-use Prim.Native.Nat.{ℕ, _+_, _*_, _/_, _%_}
-use mathlib.Core.Bool.{Bool, true, false, cond, not, _&&_, _||_}
-use lib.Dec.{ltb, leb, eqb}
+use Prim.Native.Nat.{ℕ, _+_, _*_}
+use mathlib.Core.Bool.{Bool, true, false, cond}
+use lib.Dec.{eqb}
 use Rattle.machine.specs.declared.Registers.{Registers}
 use Rattle.machine.specs.declared.Flags.{Flags}
 use Rattle.machine.specs.declared.Core.{Core}
 use Rattle.machine.specs.declared.Reply.{Reply}
-use Rattle.machine.specs.declared.Reply.the-variants.{Done, Fault, Trap, Halt}
+use Rattle.machine.specs.declared.Reply.the-variants.{Done}
 use Rattle.machine.specs.declared.Want.{Want}
 use Rattle.machine.specs.declared.Want.the-variants.{Nothing, Read, Write}
-use Rattle.machine.specs.Record.{wrap, digit, register, withRegister, byteRegister, withByte, readAt, writeAt}
+use Rattle.machine.specs.Record.{wrap, register, withRegister, readAt, writeAt}
 use Rattle.alu.specs.declared.Status.{Status}
-use Rattle.alu.specs.declared.Out.{Out}
 use Rattle.encoding.specs.declared.Operand.{Operand}
 use Rattle.encoding.specs.declared.Instruction.{Instruction}
 use Rattle.execute.specs.declared.Effect.{Effect}

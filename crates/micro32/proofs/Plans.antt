@@ -1,7 +1,7 @@
 -- From the code's plan to the definition's step, one law for each place where a plan is made. Assumes nothing.
-use Prim.Native.Nat.{ℕ, _+_, _<_}
+use Prim.Native.Nat.{ℕ, _+_}
 use mathlib.Core.Path.{_≡_, refl, sym, ap, _∙_}
-use mathlib.Core.Bool.{Bool, true, false, cond, false≢true}
+use mathlib.Core.Bool.{Bool, true, false, false≢true}
 use mathlib.Core.List.{List, [], _∷_, _++_, append-assoc}
 use Rattle.machine.specs.declared.Control.{Control}
 use Rattle.machine.specs.declared.Core.{Core}
@@ -12,13 +12,13 @@ use Rattle.machine.specs.declared.Want.{Want}
 use Rattle.machine.specs.Record.{Mem, iopl, coreOf, withCore}
 use Rattle.machine.specs.Replies.{isDone}
 use Rattle.machine.specs.Paging.{View, view, translate}
-use Rattle.machine.specs.Commit.{Patch, Touch, Store, patches, touched, written, stored, commit}
-use Rattle.machine.specs.Run.{Plan, Outcome, settle}
-use Rattle.machine.specs.Act.{Log, Res, ok, refuse, access, store, storesOf, noting, ended, planOf}
+use Rattle.machine.specs.Commit.{Patch, Store, patches, touched, written, stored, commit}
+use Rattle.machine.specs.Run.{Plan, settle}
+use Rattle.machine.specs.Act.{Log, ok, refuse, access, store, storesOf, noting, ended, planOf}
 use Rattle.access.specs.declared.Access.{Access}
 use Rattle.access.specs.declared.Located.{Located}
 use Rattle.access.specs.declared.Located.the-variants.{Here, No}
-use Rattle.access.specs.Located.{span, touchesOf, trailMarks, puts, Held, LocatedOk}
+use Rattle.access.specs.Located.{span, touchesOf, puts, Held, LocatedOk}
 use Rattle.access.proofs.Marks.{patches-append, touched-append}
 use Rattle.encoding.specs.declared.Instruction.{Instruction}
 use Rattle.decode.specs.Decode.{decode}

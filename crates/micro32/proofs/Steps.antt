@@ -1,13 +1,12 @@
 -- From a plan to the step, and from steps to the run. Assumes nothing.
-use Prim.Native.Nat.{ℕ, zero, suc, _+_, _-_, _%_, _<_, _≤_}
+use Prim.Native.Nat.{ℕ, suc, _+_, _-_, _%_, _<_, _≤_}
 use mathlib.Core.Path.{_≡_, refl, sym, ap, _∙_}
-use mathlib.Core.Bool.{Bool, true, false, cond, _&&_, false≢true}
+use mathlib.Core.Bool.{Bool, true, false, _&&_}
 use native.Mathlib.Omega.{arith}
 use borrow.Author.Tests.{eqb-true}
 use lib.ListN.{length}
 use lib.Dec.{eqb, leb}
 use Rattle.machine.specs.declared.Cpu.{Cpu}
-use Rattle.machine.specs.declared.Reply.{Reply}
 use Rattle.machine.specs.declared.Reply.the-variants.{Done, BadRecord, Spent}
 use Rattle.machine.specs.Record.{Mem, sound, soundAt, sizeSound, ringSound, cr0Sound, cr3Sound, flagsSound, withCore}
 use Rattle.machine.specs.Replies.{isDone}

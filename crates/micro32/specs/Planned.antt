@@ -1,8 +1,8 @@
 -- What the code's plan of a step means: the instruction was looked at, and nothing is changed yet.
 -- Assumes nothing.
-use Prim.Native.Nat.{ℕ, _<_}
+use Prim.Native.Nat.{_<_}
 use mathlib.Core.Path.{_≡_}
-use mathlib.Core.Bool.{Bool, true, false, cond}
+use mathlib.Core.Bool.{true, false, cond}
 use Rattle.machine.specs.Record.{Mem, iopl, coreOf, withCore}
 use Rattle.machine.specs.declared.Core.{Core}
 use Rattle.machine.specs.declared.Cpu.{Cpu}

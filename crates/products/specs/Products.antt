@@ -1,7 +1,7 @@
 -- MUL, IMUL, DIV and IDIV, over the width w in bits: signed numbers by sign and magnitude (document 01, "Flags and numbers").
 -- Assumes nothing.
 use Prim.Native.Nat.{ℕ, _+_, _-_, _*_, _/_, _%_, _^_}
-use mathlib.Core.Bool.{Bool, true, false, not, cond, Bool·beq}
+use mathlib.Core.Bool.{Bool, not, cond, Bool·beq}
 use lib.Dec.{ltb, leb, eqb}
 use Rattle.alu.specs.declared.Status.{Status}
 use Rattle.alu.specs.Arithmetic.{top, sign, bits, low}

@@ -10,7 +10,7 @@ use lib.Pow.{pow-add, shr-shr, shr-le, mod-mod-pow}
 use borrow.Author.Tests.{le-leb, lt-leb, ne-eqb}
 use Rattle.alu.specs.declared.Status.{Status}
 use Rattle.alu.specs.declared.Out.{Out}
-use Rattle.shifts.specs.Shifts.{times, left, right, rightSigned, shiftStatus, shifted}
+use Rattle.shifts.specs.Shifts.{times, left, right, shiftStatus, shifted}
 
 pub last : (f : ℕ → ℕ) (n v : ℕ) → zero < n → times f n v ≡ f (times f (n - 1) v)
 unfolding times

@@ -1,7 +1,7 @@
 -- SHL, SHR and SAR, one place at a time, over the width w in bits (document 01, "Flags and numbers").
 -- Assumes nothing.
 use Prim.Native.Nat.{ℕ, zero, suc, _+_, _-_, _*_, _/_, _%_, _^_}
-use mathlib.Core.Bool.{Bool, true, false, not, cond, Bool·beq}
+use mathlib.Core.Bool.{Bool, false, not, cond, Bool·beq}
 use lib.Dec.{eqb}
 use Rattle.alu.specs.declared.Status.{Status}
 use Rattle.alu.specs.declared.Out.{Out}

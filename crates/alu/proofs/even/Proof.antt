@@ -1,5 +1,4 @@
 use borrow.Author.Needs.{needs}
-use lib.Count.{ones}
 use Rattle.alu.specs.Arithmetic.{parity}
 use Rattle.alu.proofs.even.Statement.{statement}
 use Rattle.alu.proofs.even.Tie as tie

@@ -3,10 +3,6 @@ use Rattle.alu.specs.Arithmetic.{operate}
 use borrow.Author.Needs.{needs}
 use Rattle.alu.proofs.operate.Statement.{statement}
 use Rattle.alu.proofs.operate.Tie as tie
-use Rattle.alu.proofs.operate.Reads as reads
-use Rattle.alu.proofs.operate.Lts as lts
-use Rattle.alu.proofs.operate32.Reads as operate32-reads
-use Rattle.alu.proofs.operate8.Reads as operate8-reads
 
 operate32-requires : tie.Need-operate32-requires
 operate32-requires c κs = search needs

@@ -4,11 +4,6 @@ use Rattle.alu.specs.Arithmetic.{operation}
 use borrow.Author.Needs.{needs}
 use Rattle.alu.proofs.operate32.Statement.{statement}
 use Rattle.alu.proofs.operate32.Tie as tie
-use Rattle.alu.proofs.operate32.Reads as reads
-use Rattle.alu.proofs.operate32.Lts as lts
-use Rattle.alu.proofs.add32.Reads as add32-reads
-use Rattle.alu.proofs.logic32.Reads as logic32-reads
-use Rattle.alu.proofs.sub32.Reads as sub32-reads
 
 add32-requires : tie.Need-add32-requires
 add32-requires c κs = search needs

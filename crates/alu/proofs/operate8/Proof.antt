@@ -4,11 +4,6 @@ use Rattle.alu.specs.Arithmetic.{operation}
 use borrow.Author.Needs.{needs}
 use Rattle.alu.proofs.operate8.Statement.{statement}
 use Rattle.alu.proofs.operate8.Tie as tie
-use Rattle.alu.proofs.operate8.Reads as reads
-use Rattle.alu.proofs.operate8.Lts as lts
-use Rattle.alu.proofs.add8.Reads as add8-reads
-use Rattle.alu.proofs.logic8.Reads as logic8-reads
-use Rattle.alu.proofs.sub8.Reads as sub8-reads
 
 add8-requires : tie.Need-add8-requires
 add8-requires c κs = search needs

@@ -4,10 +4,6 @@ use Rattle.alu.proofs.Laws.{sub-of, bit-le}
 use borrow.Author.Needs.{needs}
 use Rattle.alu.proofs.sub8.Statement.{statement}
 use Rattle.alu.proofs.sub8.Tie as tie
-use Rattle.alu.proofs.sub8.Reads as reads
-use Rattle.alu.proofs.sub8.Lts as lts
-use Rattle.alu.proofs.even.Reads as even-reads
-use Rattle.alu.proofs.one.Reads as one-reads
 
 one-requires : tie.Need-one-requires
 one-requires c κs = search needs

@@ -1,7 +1,5 @@
 use borrow.Author.Needs.{needs}
-use borrow.Author.Tests.{lt-ltb, le-ltb, le-leb, lt-leb, eq-eqb, ne-eqb, not-true, not-false, ltb-true}
-use native.Mathlib.Omega.{arith}
-use mathlib.Core.Path.{_≡_, refl, sym, ap, _∙_}
+use mathlib.Core.Path.{sym, _∙_}
 use mathlib.Core.Bool.{Bool, true, false}
 use mathlib.Core.List.{List, [], _∷_}
 use lib.ListN.{List·getD-eq-default}
@@ -10,9 +8,6 @@ use Rattle.conditions.specs.Conditions.{holds, conditions}
 use Rattle.conditions.proofs.Rows.{rule}
 use Rattle.conditions.proofs.condition.Statement.{statement}
 use Rattle.conditions.proofs.condition.Tie as tie
-use Rattle.conditions.proofs.condition.Reads as reads
-use Rattle.conditions.proofs.condition.Lts as lts
-use Rattle.conditions.proofs.row_holds.Reads as row-holds-reads
 
 abbrev row : Bool → Bool → Bool → Bool → Bool → Bool → Bool → Row
 row o c z s p l n = record { o = o; c = c; z = z; s = s; p = p; less = l; negated = n }
@@ -36,24 +31,19 @@ rows =
     row false false true false false true false ∷
     row false false true false false true true ∷ []
 
--- src/lib.rt:54:26
 mul-row-holds : tie.Need-mul-row-holds
 mul-row-holds c = search needs
 
--- src/lib.rt:54:26
 array-copy-out-row-holds : tie.Need-array-copy-out-row-holds
 array-copy-out-row-holds c = search needs
 
--- src/lib.rt:54:9
 row-holds-requires : tie.Need-row-holds-requires
 row-holds-requires c κs = search needs
 
--- src/lib.rt:54:9
 returns : tie.Need-returns
 unfolding holds rows
 returns c = (c .row-holds .ensures) ∙ rule rows _ ((c .before .before .before .args .n)) ((c .before .before .before .args .f)) ((c .before .before .if1 .taken)) tt
 
--- src/lib.rt:50:1
 returns-2 : tie.Need-returns-2
 unfolding holds
 returns-2 c = sym (List·getD-eq-default (conditions ((c .before .args .f))) false {n = (c .before .args .n)} ((c .if1 .left)))

@@ -4,7 +4,6 @@ use mathlib.Core.Bool.{Bool}
 use Prim.Native.Nat.{ℕ}
 use lib.Dec.{eqb, eqb→eq}
 use lib.ListN.{getD}
-use borrow.Author.Needs.{needs}
 use Rattle.encoding.specs.Encodings.{classOf}
 use Rattle.encoding.proofs.Table.{at}
 use Rattle.encoding.proofs.classes.Statement.{statement}

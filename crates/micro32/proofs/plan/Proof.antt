@@ -1,129 +1,87 @@
 use Rattle.micro32.proofs.Plans.{at-unready, at-forbidden, at-first, at-second, at-ready}
 use borrow.Author.Needs.{needs}
-use borrow.Author.Tests.{lt-ltb, le-ltb, le-leb, lt-leb, eq-eqb, ne-eqb, not-true, not-false, ltb-true}
-use native.Mathlib.Omega.{arith}
-use mathlib.Core.Path.{_≡_, refl, sym, ap, _∙_}
+use borrow.Author.Tests.{not-true, not-false}
 use Rattle.micro32.proofs.plan.Statement.{statement}
 use Rattle.micro32.proofs.plan.Tie as tie
-use Rattle.micro32.proofs.plan.Reads as reads
-use Rattle.micro32.proofs.plan.Lts as lts
-use Rattle.access.proofs.locate.Reads as locate-reads
-use Rattle.decode.proofs.decode.Reads as decode-reads
-use Rattle.execute.proofs.compute.Reads as compute-reads
-use Rattle.execute.proofs.first.Reads as first-reads
-use Rattle.execute.proofs.permitted.Reads as permitted-reads
-use Rattle.execute.proofs.second.Reads as second-reads
-use Rattle.machine.proofs.core_of.Reads as core-of-reads
-use Rattle.machine.proofs.is_done.Reads as is-done-reads
-use Rattle.micro32.proofs.gone.Reads as gone-reads
-use Rattle.micro32.proofs.stopped.Reads as stopped-reads
-use Rattle.micro32.proofs.unready.Reads as unready-reads
 
--- src/lib.rt:77:9
 core-of-requires : tie.Need-core-of-requires
 core-of-requires c κs = search needs
 
--- src/lib.rt:78:9
 decode-requires : tie.Need-decode-requires
 decode-requires c κs = search needs
 
--- src/lib.rt:79:24
 enum-known-d : tie.Need-enum-known-d
 enum-known-d c = search needs
 
--- src/lib.rt:80:30
 enum-told : tie.Need-enum-told
 enum-told c = search needs
 
--- src/lib.rt:80:30
 unready-requires : tie.Need-unready-requires
 unready-requires c κs = search needs
 
--- src/lib.rt:80:9
 stopped-requires : tie.Need-stopped-requires
 stopped-requires c κs = search needs
 
--- src/lib.rt:80:9
 returns : tie.Need-returns
 returns c = at-unready ((c .before .before .before .before .before .before .before .before .before .args .mem .now)) ((c .before .before .before .before .before .before .before .before .before .args .c)) ((c .before .before .before .before .decode .ensures)) ((c .before .before .enum-told .given .1)) ((c .before .unready .ensures)) ((c .stopped .ensures))
 
--- src/lib.rt:82:9
 permitted-requires : tie.Need-permitted-requires
 permitted-requires c κs = search needs
 
--- src/lib.rt:83:9
 stopped-requires-2 : tie.Need-stopped-requires-2
 stopped-requires-2 c κs = search needs
 
--- src/lib.rt:83:9
 returns-2 : tie.Need-returns-2
 returns-2 c = at-forbidden ((c .before .before .before .before .before .before .before .before .before .before .before .before .args .mem .now)) ((c .before .before .before .before .before .before .before .before .before .before .before .before .args .c)) ((c .before .before .before .before .before .before .before .decode .ensures)) _ ((c .before .before .before .before .before .d .given .1)) ((c .before .before .permitted .ensures)) (not-true _ ((c .before .if1 .taken))) ((c .stopped2 .ensures))
 
--- src/lib.rt:85:36
 first-requires : tie.Need-first-requires
 first-requires c κs = search needs
 
--- src/lib.rt:85:9
 locate-requires : tie.Need-locate-requires
 locate-requires c κs = search needs
 
--- src/lib.rt:86:23
 enum-known-f : tie.Need-enum-known-f
 enum-known-f c = search needs
 
--- src/lib.rt:87:30
 enum-told-2 : tie.Need-enum-told-2
 enum-told-2 c = search needs
 
--- src/lib.rt:87:30
 gone-requires : tie.Need-gone-requires
 gone-requires c κs = search needs
 
--- src/lib.rt:87:9
 stopped-requires-3 : tie.Need-stopped-requires-3
 stopped-requires-3 c κs = search needs
 
--- src/lib.rt:87:9
 returns-3 : tie.Need-returns-3
 returns-3 c = at-first ((c .before .before .before .before .before .before .before .before .before .before .before .before .before .before .before .before .before .args .mem .now)) ((c .before .before .before .before .before .before .before .before .before .before .before .before .before .before .before .before .before .args .c)) ((c .before .before .before .before .before .before .before .before .before .before .before .before .decode .ensures)) _ ((c .before .before .before .before .before .before .before .before .before .before .d .given .1)) ((c .before .before .before .before .before .before .before .permitted .ensures)) (not-false _ ((c .before .before .before .before .before .before .if1 .left))) ((c .before .before .before .before .before .first .ensures)) _ ((c .before .before .before .before .locate .ensures)) ((c .before .before .enum-told2 .given .1)) ((c .before .gone .ensures)) ((c .stopped3 .ensures))
 
--- src/lib.rt:89:36
 second-requires : tie.Need-second-requires
 second-requires c κs = search needs
 
--- src/lib.rt:89:9
 locate-requires-2 : tie.Need-locate-requires-2
 locate-requires-2 c κs = (c .before .before .before .before .before .before .before .before .before .before .before .before .before .before .before .before .before .pre .0)
 
--- src/lib.rt:90:23
 enum-known-g : tie.Need-enum-known-g
 enum-known-g c = search needs
 
--- src/lib.rt:91:30
 enum-told-3 : tie.Need-enum-told-3
 enum-told-3 c = search needs
 
--- src/lib.rt:91:30
 gone-requires-2 : tie.Need-gone-requires-2
 gone-requires-2 c κs = search needs
 
--- src/lib.rt:91:9
 stopped-requires-4 : tie.Need-stopped-requires-4
 stopped-requires-4 c κs = search needs
 
--- src/lib.rt:91:9
 returns-4 : tie.Need-returns-4
 returns-4 c = at-second ((c .before .before .before .before .before .before .before .before .before .before .before .before .before .before .before .before .before .before .before .before .before .before .args .mem .now)) ((c .before .before .before .before .before .before .before .before .before .before .before .before .before .before .before .before .before .before .before .before .before .before .args .c)) ((c .before .before .before .before .before .before .before .before .before .before .before .before .before .before .before .before .before .decode .ensures)) _ ((c .before .before .before .before .before .before .before .before .before .before .before .before .before .before .before .d .given .1)) ((c .before .before .before .before .before .before .before .before .before .before .before .before .permitted .ensures)) (not-false _ ((c .before .before .before .before .before .before .before .before .before .before .before .if1 .left))) ((c .before .before .before .before .before .before .before .before .before .before .first .ensures)) _ ((c .before .before .before .before .before .before .before .before .before .locate .ensures)) _ ((c .before .before .before .before .before .before .before .f .given .1)) ((c .before .before .before .before .before .second .ensures)) _ ((c .before .before .before .before .locate2 .ensures)) ((c .before .before .enum-told3 .given .1)) ((c .before .gone2 .ensures)) ((c .stopped4 .ensures))
 
--- src/lib.rt:93:9
 compute-requires : tie.Need-compute-requires
 compute-requires c κs = search needs
 
--- src/lib.rt:96:21
 is-done-requires : tie.Need-is-done-requires
 is-done-requires c κs = search needs
 
--- src/lib.rt:71:1
 returns-5 : tie.Need-returns-5
 returns-5 c = at-ready ((c .before .before .before .before .before .before .before .before .before .before .before .before .before .before .before .before .before .before .before .before .before .before .before .before .args .mem .now)) ((c .before .before .before .before .before .before .before .before .before .before .before .before .before .before .before .before .before .before .before .before .before .before .before .before .args .c)) ((c .before .before .before .before .before .before .before .before .before .before .before .before .before .before .before .before .before .before .before .decode .ensures)) _ ((c .before .before .before .before .before .before .before .before .before .before .before .before .before .before .before .before .before .d .given .1)) ((c .before .before .before .before .before .before .before .before .before .before .before .before .before .before .permitted .ensures)) (not-false _ ((c .before .before .before .before .before .before .before .before .before .before .before .before .before .if1 .left))) ((c .before .before .before .before .before .before .before .before .before .before .before .before .first .ensures)) _ ((c .before .before .before .before .before .before .before .before .before .before .before .locate .ensures)) _ ((c .before .before .before .before .before .before .before .before .before .f .given .1)) ((c .before .before .before .before .before .before .before .second .ensures)) _ ((c .before .before .before .before .before .before .locate2 .ensures)) _ ((c .before .before .before .before .g .given .1)) ((c .before .before .compute .result)) ((c .before .before .before .before .before .before .before .before .before .before .before .before .before .before .before .before .before .before .before .before .core-of .ensures)) ((c .before .before .compute .ensures)) ((c .is-done .ensures))
 

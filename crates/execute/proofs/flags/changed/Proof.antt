@@ -1,52 +1,38 @@
 use Rattle.execute.specs.FlagOperations.{changed}
-use mathlib.Core.Path.{_≡_, refl, sym, ap, _∙_}
-use native.Mathlib.Omega.{arith}
-use borrow.Author.Tests.{lt-ltb, le-ltb, le-leb, lt-leb, eq-eqb, ne-eqb, not-true, not-false, ltb-true}
+use borrow.Author.Tests.{eq-eqb, ne-eqb}
 use borrow.Author.Needs.{needs}
 use Rattle.execute.proofs.flags.changed.Statement.{statement}
 use Rattle.execute.proofs.flags.changed.Tie as tie
-use Rattle.execute.proofs.flags.changed.Reads as reads
-use Rattle.execute.proofs.flags.changed.Lts as lts
-use Rattle.execute.proofs.flags.with_carry.Reads as with-carry-reads
 
--- src/flags.rt:24:9
 with-carry-requires : tie.Need-with-carry-requires
 with-carry-requires c κs = search needs
 
--- src/flags.rt:24:9
 returns : tie.Need-returns
 unfolding changed
 returns c = rw (eq-eqb _ _ (c .before .before .if1 .taken)) (cc)
 
--- src/flags.rt:27:9
 with-carry-requires-2 : tie.Need-with-carry-requires-2
 with-carry-requires-2 c κs = search needs
 
--- src/flags.rt:27:9
 returns-2 : tie.Need-returns-2
 unfolding changed
 returns-2 c = rw (ne-eqb _ _ (c .before .before .if1 .left), eq-eqb _ _ (c .before .if2 .taken)) (cc)
 
--- src/flags.rt:30:9
 with-carry-requires-3 : tie.Need-with-carry-requires-3
 with-carry-requires-3 c κs = search needs
 
--- src/flags.rt:30:9
 returns-3 : tie.Need-returns-3
 unfolding changed
 returns-3 c = rw (ne-eqb _ _ (c .before .before .before .if1 .left), ne-eqb _ _ (c .before .before .if2 .left), eq-eqb _ _ (c .before .if3 .taken)) (cc)
 
--- src/flags.rt:33:9
 returns-4 : tie.Need-returns-4
 unfolding changed
 returns-4 c = rw (ne-eqb _ _ (c .before .before .before .if1 .left), ne-eqb _ _ (c .before .before .if2 .left), ne-eqb _ _ (c .before .if3 .left), eq-eqb _ _ (c .if4 .taken)) (cc)
 
--- src/flags.rt:36:9
 returns-5 : tie.Need-returns-5
 unfolding changed
 returns-5 c = rw (ne-eqb _ _ (c .before .before .before .before .if1 .left), ne-eqb _ _ (c .before .before .before .if2 .left), ne-eqb _ _ (c .before .before .if3 .left), ne-eqb _ _ (c .before .if4 .left), eq-eqb _ _ (c .if5 .taken)) (cc)
 
--- src/flags.rt:19:1
 returns-6 : tie.Need-returns-6
 unfolding changed
 returns-6 c = rw (ne-eqb _ _ (c .before .before .before .before .if1 .left), ne-eqb _ _ (c .before .before .before .if2 .left), ne-eqb _ _ (c .before .before .if3 .left), ne-eqb _ _ (c .before .if4 .left), ne-eqb _ _ (c .if5 .left)) (cc)

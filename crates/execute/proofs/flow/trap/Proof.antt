@@ -1,24 +1,14 @@
 use Rattle.execute.specs.Flow.{doTrap}
-use mathlib.Core.Path.{_≡_, refl, sym, ap, _∙_}
-use native.Mathlib.Omega.{arith}
-use borrow.Author.Tests.{lt-ltb, le-ltb, le-leb, lt-leb, eq-eqb, ne-eqb, not-true, not-false, ltb-true}
 use borrow.Author.Needs.{needs}
 use Rattle.execute.proofs.flow.trap.Statement.{statement}
 use Rattle.execute.proofs.flow.trap.Tie as tie
-use Rattle.execute.proofs.flow.trap.Reads as reads
-use Rattle.execute.proofs.flow.trap.Lts as lts
-use Rattle.execute.proofs.operands.next.Reads as next-reads
-use Rattle.execute.proofs.operands.refused.Reads as refused-reads
 
--- src/flow.rt:87:57
 next-requires : tie.Need-next-requires
 next-requires c κs = search needs
 
--- src/flow.rt:87:5
 refused-requires : tie.Need-refused-requires
 refused-requires c κs = search needs
 
--- src/flow.rt:84:1
 returns : tie.Need-returns
 unfolding doTrap
 returns c = cc

@@ -1,37 +1,28 @@
 use borrow.Author.Needs.{needs}
-use borrow.Author.Tests.{lt-ltb, le-ltb, le-leb, lt-leb, eq-eqb, ne-eqb, not-true, not-false, ltb-true}
+use borrow.Author.Tests.{eq-eqb, ne-eqb}
 use native.Mathlib.Omega.{arith}
-use mathlib.Core.Path.{_≡_, refl, sym, ap, _∙_}
+use mathlib.Core.Path.{refl}
 use Rattle.execute.proofs.operands.times.Statement.{statement}
 use Rattle.execute.proofs.operands.times.Tie as tie
-use Rattle.execute.proofs.operands.times.Reads as reads
-use Rattle.execute.proofs.operands.times.Lts as lts
 
--- src/operands.rt:20:9
 returns : tie.Need-returns
 returns c = rw (eq-eqb _ _ ((c .if1 .taken))) (refl, omega arith)
 
--- src/operands.rt:23:16
 mul-result : tie.Need-mul-result
 mul-result c = search needs
 
--- src/operands.rt:23:9
 returns-2 : tie.Need-returns-2
 returns-2 c = rw (ne-eqb _ _ ((c .before .if1 .left)), eq-eqb _ _ ((c .if2 .taken))) (refl, omega arith)
 
--- src/operands.rt:26:16
 mul-result-2 : tie.Need-mul-result-2
 mul-result-2 c = search needs
 
--- src/operands.rt:26:9
 returns-3 : tie.Need-returns-3
 returns-3 c = rw (ne-eqb _ _ ((c .before .before .if1 .left)), ne-eqb _ _ ((c .before .if2 .left)), eq-eqb _ _ ((c .if3 .taken))) (refl, omega arith)
 
--- src/operands.rt:28:5
 mul-result-3 : tie.Need-mul-result-3
 mul-result-3 c = search needs
 
--- src/operands.rt:15:1
 returns-4 : tie.Need-returns-4
 returns-4 c = rw (ne-eqb _ _ ((c .before .before .if1 .left)), ne-eqb _ _ ((c .before .if2 .left)), ne-eqb _ _ ((c .if3 .left))) (refl, omega arith)
 

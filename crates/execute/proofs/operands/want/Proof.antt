@@ -1,34 +1,23 @@
 use mathlib.Core.Bool.{true, false}
 use borrow.Author.Needs.{needs}
-use borrow.Author.Tests.{lt-ltb, le-ltb, le-leb, lt-leb, eq-eqb, ne-eqb, not-true, not-false, ltb-true}
-use native.Mathlib.Omega.{arith}
-use mathlib.Core.Path.{_≡_, refl, sym, ap, _∙_}
 use Rattle.execute.proofs.Wants.{in-memory}
 use Rattle.execute.specs.Operands.{operandWant}
 use Rattle.execute.proofs.operands.want.Statement.{statement}
 use Rattle.execute.proofs.operands.want.Tie as tie
-use Rattle.execute.proofs.operands.want.Reads as reads
-use Rattle.execute.proofs.operands.want.Lts as lts
-use Rattle.execute.proofs.operands.address.Reads as address-reads
 
--- src/operands.rt:46:9
 returns : tie.Need-returns
 unfolding operandWant
 returns c = rw (c .if1 .taken) (cc)
 
--- src/operands.rt:49:36
 address-requires : tie.Need-address-requires
 address-requires c κs = search needs
 
--- src/operands.rt:49:9
 returns-2 : tie.Need-returns-2
 returns-2 c = rw ((c .before .if2 .taken)) (in-memory true ((c .before .before .before .before .args .i)) ((c .before .before .before .before .args .r)) _ ((c .before .before .if1 .left)) ((c .address .ensures)))
 
--- src/operands.rt:51:24
 address-requires-2 : tie.Need-address-requires-2
 address-requires-2 c κs = search needs
 
--- src/operands.rt:41:1
 returns-3 : tie.Need-returns-3
 returns-3 c = rw ((c .before .if2 .left)) (in-memory false ((c .before .before .before .before .args .i)) ((c .before .before .before .before .args .r)) _ ((c .before .before .if1 .left)) ((c .address2 .ensures)))
 

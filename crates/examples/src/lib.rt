@@ -1,0 +1,1 @@
+// No code: document 01's marked examples. specs/ has the list, proofs/ the one statement over it.
