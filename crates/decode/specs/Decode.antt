@@ -4,7 +4,7 @@ use Prim.Native.Nat.{ℕ, zero, suc, _+_, _*_, _/_, _%_}
 use mathlib.Core.Bool.{true, false, cond, _&&_}
 use lib.Dec.{ltb, leb, eqb}
 use Rattle.machine.specs.declared.Reply.the-variants.{Fault, NotBuilt}
-use Rattle.machine.specs.Act.{Act, return, stop, unit, fetch, fetchedSoFar}
+use Rattle.machine.specs.Act.{Act, _>>=_, _>>_, return, stop, unit, fetch, fetchedSoFar}
 use Rattle.encoding.specs.declared.Operand.{Operand}
 use Rattle.encoding.specs.declared.Instruction.{Instruction}
 use Rattle.encoding.specs.Encodings.{classOf, notBuilt, override, escape, undefined}

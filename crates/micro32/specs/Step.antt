@@ -6,7 +6,7 @@ use Rattle.machine.specs.declared.Core.{Core}
 use Rattle.machine.specs.declared.Reply.the-variants.{Fault}
 use Rattle.machine.specs.declared.Want.{Want}
 use Rattle.machine.specs.Replies.{isDone}
-use Rattle.machine.specs.Act.{Act, return, stop, unit, access, store, planOf}
+use Rattle.machine.specs.Act.{Act, _>>=_, _>>_, return, stop, unit, access, store, planOf}
 use Rattle.machine.specs.Run.{Planner}
 use Rattle.encoding.specs.declared.Instruction.{Instruction}
 use Rattle.decode.specs.Decode.{decode}
