@@ -12,11 +12,11 @@ fn say(text: &[u8]) {
 }
 
 fn hex(x: u32) {
-    io::number::print_hex(OUT, x as u64, 8);
+    io::print_hex(OUT, x as u64, 8);
 }
 
 fn decimal(x: u32) {
-    io::number::print_decimal(OUT, x as u64);
+    io::print_decimal(OUT, x as u64);
 }
 
 fn put(mem: &mut [u8], at: usize, b: u8) {
