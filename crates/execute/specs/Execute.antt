@@ -9,15 +9,15 @@ use Rattle.machine.specs.declared.Want.{Want}
 use Rattle.machine.specs.declared.Want.the-variants.{Nothing, Read, Write}
 use Rattle.machine.specs.Record.{register}
 use Rattle.encoding.specs.declared.Instruction.{Instruction}
-use Rattle.execute.specs.declared.Effect.{Effect}
+use Rattle.operands.specs.declared.Effect.{Effect}
 use Rattle.alu.specs.Arithmetic.{writes}
 use Rattle.encoding.specs.Families.{combineTo, combineFrom, combineImmediate, unary, shiftBy, shiftByCl, accumulate, multiplyBy, multiplyInto, extend, addressOf, swap, push, pushNumber, pop, setOn, jumpOn, jump, jumpTo, call, callTo, return, loop, flag, transfer, convert, trap, halt}
-use Rattle.execute.specs.Operands.{operandWant, esp, lowered, raised}
-use Rattle.execute.specs.Arithmetic.{doCombineTo, doCombineFrom, doCombineImmediate, doUnary, doShift, cl, doAccumulate, doMultiplyBy, doMultiplyInto}
-use Rattle.execute.specs.Moves.{doExtend, doAddress, doSwap, doSet, doConvert}
-use Rattle.execute.specs.Stack.{doPush, doPushNumber, doPop, doCall, doCallTo, doReturn}
-use Rattle.execute.specs.Flow.{doJumpOn, doJump, doJumpTo, doLoop, doTrap, doHalt}
-use Rattle.execute.specs.FlagOperations.{doFlag, doTransfer}
+use Rattle.operands.specs.Operands.{operandWant, esp, lowered, raised}
+use Rattle.arithmetic.specs.Arithmetic.{doCombineTo, doCombineFrom, doCombineImmediate, doUnary, doShift, cl, doAccumulate, doMultiplyBy, doMultiplyInto}
+use Rattle.moves.specs.Moves.{doExtend, doAddress, doSwap, doSet, doConvert}
+use Rattle.stack.specs.Stack.{doPush, doPushNumber, doPop, doCall, doCallTo, doReturn}
+use Rattle.flow.specs.Flow.{doJumpOn, doJump, doJumpTo, doLoop, doTrap, doHalt}
+use Rattle.flags.specs.FlagOperations.{doFlag, doTransfer}
 
 -- ---- 3: HLT in ring 3, or CLI or STI with the ring above IOPL, is Fault 13
 

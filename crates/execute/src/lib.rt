@@ -1,10 +1,4 @@
 // An instruction in document 01's phases: which accesses it makes, and what it computes of what they find. Memory is never touched here.
-pub mod operands;
-pub mod arithmetic;
-pub mod moves;
-pub mod stack;
-pub mod flow;
-pub mod flags;
 ghost use mathlib.Core.Path.{_≡_};
 ghost use Rattle.execute.specs.Execute.{permitted, writesOperand, readsOperand, first, second, computeArithmetic, computeMove, computeFlow, computeOther, compute};
 use machine::Core;
@@ -12,13 +6,7 @@ use machine::Registers;
 use machine::Reply;
 use machine::Want;
 use encoding::Instruction;
-
-// What an instruction does: the reply, Done where it is carried out; the core after; the value to store where it writes.
-pub struct Effect {
-    pub reply: Reply,
-    pub core: Core,
-    pub value: u32,
-}
+use operands::Effect;
 
 // May it be carried out in this ring?
 pub fn permitted(i: Instruction, iopl: u32, ring: u32) -> bool

@@ -27,7 +27,7 @@ use Rattle.decode.specs.declared.Decoded.the-variants.{Ready, Unready}
 use Rattle.decode.specs.Read.{logAt, readyOf}
 use Rattle.decode.proofs.Cap.{fetched-within}
 use native.Mathlib.Omega.{arith}
-use Rattle.execute.specs.declared.Effect.{Effect}
+use Rattle.operands.specs.declared.Effect.{Effect}
 use Rattle.execute.specs.Execute.{permitted, first, second, compute}
 use Rattle.micro32.specs.declared.Planned.{Planned}
 use Rattle.micro32.specs.Step.{allowed, leave, instruction, micro32}

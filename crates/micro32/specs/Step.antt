@@ -10,7 +10,7 @@ use Rattle.machine.specs.Act.{Act, _>>=_, _>>_, return, stop, unit, access, sto
 use Rattle.machine.specs.Run.{Planner}
 use Rattle.encoding.specs.declared.Instruction.{Instruction}
 use Rattle.decode.specs.Decode.{decode}
-use Rattle.execute.specs.declared.Effect.{Effect}
+use Rattle.operands.specs.declared.Effect.{Effect}
 use Rattle.execute.specs.Execute.{permitted, first, second, compute}
 
 -- 3: some instructions are for the kernel alone

@@ -1,5 +1,5 @@
 use Prim.Native.Nat.{ℕ}
-use Rattle.execute.specs.Arithmetic.{doShift}
+use Rattle.arithmetic.specs.Arithmetic.{doShift}
 use mathlib.Core.Path.{ap, _∙_}
 use Rattle.execute.specs.Execute.{computeArithmetic}
 use borrow.Author.Tests.{eq-eqb, ne-eqb}

@@ -1,2 +1,0 @@
-pub mod Divided
-pub mod Wants
