@@ -22,6 +22,7 @@ pub enum Reply {
 }
 
 // EAX ECX EDX EBX ESP EBP ESI EDI.
+#[repr(C)]
 pub struct Registers {
     pub e: [u32; 8],
 }
@@ -41,6 +42,7 @@ pub struct Core {
 }
 
 // What no instruction of the build can change.
+#[repr(C)]
 pub struct Control {
     pub cr0: u32,
     pub cr2: u32,
@@ -48,7 +50,8 @@ pub struct Control {
     pub ring: u32,
 }
 
-// The record: fourteen dwords.
+// The record: fourteen dwords, in this order for C too.
+#[repr(C)]
 pub struct Cpu {
     pub regs: Registers,
     pub eip: u32,

@@ -1,3 +1,4 @@
 pub mod Step
 pub mod Told
 pub mod Planned
+pub mod Boundary
