@@ -37,9 +37,13 @@ fn dword(mem: &[u8], at: u32) -> u32 {
     paging::entry(mem, at / 4096, at % 4096 / 4)
 }
 
+// A program, of at most a page.
 fn load(mem: &mut [u8], at: u32, code: &[u8]) {
     let mut i: usize = 0;
-    while i < code.len() {
+    while i < 4096 {
+        if code.len() <= i {
+            return;
+        }
         put(mem, at as usize + i, code[i]);
         i += 1;
     }
