@@ -7,12 +7,12 @@ ghost use Rattle.machine.specs.Record.{at};
 ghost use Rattle.machine.specs.Commit.{mark, patch, patches};
 ghost use Rattle.paging.specs.Walked.{patchesOf, marksIn};
 ghost use Rattle.access.specs.Located.{asked, LocatedOk, TrailOk, trailMarks, placed, puts, nowhere, refusalOf};
-use machine::Reply;
 use machine::Control;
+use machine::Reply;
 use machine::Want;
 use paging::Linear;
-use paging::Physical;
 use paging::Marks;
+use paging::Physical;
 use paging::Translated;
 
 // The pages that an access used: the second is None where there is one.
@@ -60,7 +60,15 @@ fn single(mem: &[u8], c: Control, w: bool, l: u32) -> Located
         return Located::No(refusal(t));
     };
     let v = paging::byte_at(mem, p.index());
-    Located::Here(Access { place: Place::Byte(p), value: v, write: w, trail: Trail { first: k, last: Marks::None } })
+    Located::Here(Access {
+        place: Place::Byte(p),
+        value: v,
+        write: w,
+        trail: Trail {
+            first: k,
+            last: Marks::None,
+        },
+    })
 }
 
 // A dword on one page.
@@ -73,13 +81,24 @@ fn near(mem: &[u8], c: Control, w: bool, l: u32) -> Located
         return Located::No(refusal(t));
     };
     let v = paging::dword_at(mem, p);
-    Located::Here(Access { place: Place::Near(p), value: v, write: w, trail: Trail { first: k, last: Marks::None } })
+    Located::Here(Access {
+        place: Place::Near(p),
+        value: v,
+        write: w,
+        trail: Trail {
+            first: k,
+            last: Marks::None,
+        },
+    })
 }
 
 fn gather(mem: &[u8], i: Physical, j: Physical, k: Physical, l: Physical) -> u32
     ensures { λ r. ⌜ r ≡ at (now (mem .entry)) (i .0) + 256 * at (now (mem .entry)) (j .0) + 65536 * at (now (mem .entry)) (k .0) + 16777216 * at (now (mem .entry)) (l .0) ⌝ }
 {
-    paging::byte_at(mem, i.index()) + 256 * paging::byte_at(mem, j.index()) + 65536 * paging::byte_at(mem, k.index()) + 16777216 * paging::byte_at(mem, l.index())
+    paging::byte_at(mem, i.index())
+        + 256 * paging::byte_at(mem, j.index())
+        + 65536 * paging::byte_at(mem, k.index())
+        + 16777216 * paging::byte_at(mem, l.index())
 }
 
 // A dword over two pages: the first page's checks are finished before the second's.
@@ -104,7 +123,12 @@ fn across(mem: &[u8], c: Control, w: bool, l: u32) -> Located
         return Located::No(refusal(t3));
     };
     let v = gather(mem, p0, p1, p2, p3);
-    Located::Here(Access { place: Place::Across(p0, p1, p2, p3), value: v, write: w, trail: Trail { first: k, last: j } })
+    Located::Here(Access {
+        place: Place::Across(p0, p1, p2, p3),
+        value: v,
+        write: w,
+        trail: Trail { first: k, last: j },
+    })
 }
 
 fn find(mem: &[u8], c: Control, w: bool, wide: bool, l: u32) -> Located
@@ -123,7 +147,15 @@ fn find(mem: &[u8], c: Control, w: bool, wide: bool, l: u32) -> Located
 pub fn nowhere() -> Access
     ensures { λ r. ⌜ r ≡ nowhere ⌝ }
 {
-    Access { place: Place::Nowhere, value: 0, write: false, trail: Trail { first: Marks::None, last: Marks::None } }
+    Access {
+        place: Place::Nowhere,
+        value: 0,
+        write: false,
+        trail: Trail {
+            first: Marks::None,
+            last: Marks::None,
+        },
+    }
 }
 
 // The access that an instruction asks for; memory is only read.
@@ -155,17 +187,32 @@ pub fn code_trail(mem: &[u8], c: Control, eip: u32, n: u32) -> Trail
     let t = paging::translate(mem, c, false, Linear(eip));
     let k = marks_of(t);
     if eip % 4096 + n <= 4096 {
-        return Trail { first: k, last: Marks::None };
+        return Trail {
+            first: k,
+            last: Marks::None,
+        };
     }
-    let u = paging::translate(mem, c, false, Linear(std::num::wrapping_add_u32(eip, n - 1)));
-    Trail { first: k, last: marks_of(u) }
+    let u = paging::translate(
+        mem,
+        c,
+        false,
+        Linear(std::num::wrapping_add_u32(eip, n - 1)),
+    );
+    Trail {
+        first: k,
+        last: marks_of(u),
+    }
 }
 
 // An entry's low byte with its accessed bit set, and for a write its dirty bit.
 fn marked(b: u8, w: bool) -> u8
     ensures { λ r. ⌜ r ≡ mark w b ⌝ }
 {
-    if w { b % 32 + 96 + b / 128 * 128 } else { b % 32 + 32 + b / 64 * 64 }
+    if w {
+        b % 32 + 96 + b / 128 * 128
+    } else {
+        b % 32 + 32 + b / 64 * 64
+    }
 }
 
 // The byte is written only where a bit changes.

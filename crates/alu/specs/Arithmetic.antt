@@ -53,7 +53,7 @@ sumStatus w a b c =
       af = leb 16 (a % 16 + b % 16 + c);
       zf = isZero (sumValue w a b c);
       sf = sign w (sumValue w a b c);
-      of = not (sumFits w a b c)
+      of = not (sumFits w a b c);
     }
 
 abbrev pub sum : ℕ → ℕ → ℕ → ℕ → Out
@@ -76,7 +76,7 @@ differenceStatus w a b c =
       af = ltb (a % 16) (b % 16 + c);
       zf = isZero (differenceValue w a b c);
       sf = sign w (differenceValue w a b c);
-      of = not (differenceFits w a b c)
+      of = not (differenceFits w a b c);
     }
 
 abbrev pub difference : ℕ → ℕ → ℕ → ℕ → Out

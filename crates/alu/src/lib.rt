@@ -129,7 +129,10 @@ pub fn logic8(r: u8, s: Status) -> Out
         sf: 128 <= r,
         of: false,
     };
-    Out { value: r as u32, status }
+    Out {
+        value: r as u32,
+        status,
+    }
 }
 
 fn operate32(op: u32, a: u32, b: u32, s: Status) -> Out
@@ -145,7 +148,10 @@ fn operate32(op: u32, a: u32, b: u32, s: Status) -> Out
         6 => logic32(a ^ b, s),
         7 => sub32(a, b, false),
         8 => logic32(a & b, s),
-        _ => Out { value: b, status: s },
+        _ => Out {
+            value: b,
+            status: s,
+        },
     }
 }
 
@@ -162,7 +168,10 @@ fn operate8(op: u32, a: u8, b: u8, s: Status) -> Out
         6 => logic8(a ^ b, s),
         7 => sub8(a, b, false),
         8 => logic8(a & b, s),
-        _ => Out { value: b as u32, status: s },
+        _ => Out {
+            value: b as u32,
+            status: s,
+        },
     }
 }
 
@@ -198,15 +207,24 @@ fn single32(op: u32, a: u32, s: Status) -> Out
     if op == 0 {
         let o = add32(a, 1, false);
         let t = o.status;
-        return Out { value: o.value, status: keep_carry(s, t) };
+        return Out {
+            value: o.value,
+            status: keep_carry(s, t),
+        };
     }
     if op == 1 {
         let o = sub32(a, 1, false);
         let t = o.status;
-        return Out { value: o.value, status: keep_carry(s, t) };
+        return Out {
+            value: o.value,
+            status: keep_carry(s, t),
+        };
     }
     if op == 2 {
-        return Out { value: 0xffff_ffff - a, status: s };
+        return Out {
+            value: 0xffff_ffff - a,
+            status: s,
+        };
     }
     sub32(0, a, false)
 }
@@ -217,15 +235,24 @@ fn single8(op: u32, a: u8, s: Status) -> Out
     if op == 0 {
         let o = add8(a, 1, false);
         let t = o.status;
-        return Out { value: o.value, status: keep_carry(s, t) };
+        return Out {
+            value: o.value,
+            status: keep_carry(s, t),
+        };
     }
     if op == 1 {
         let o = sub8(a, 1, false);
         let t = o.status;
-        return Out { value: o.value, status: keep_carry(s, t) };
+        return Out {
+            value: o.value,
+            status: keep_carry(s, t),
+        };
     }
     if op == 2 {
-        return Out { value: 255 - a as u32, status: s };
+        return Out {
+            value: 255 - a as u32,
+            status: s,
+        };
     }
     sub8(0, a, false)
 }

@@ -1,14 +1,14 @@
 // Operations of two operands and of one, shifts, multiplication and division.
 ghost use mathlib.Core.Path.{_≡_};
 ghost use Rattle.arithmetic.specs.Arithmetic.{combined, combinedFrom, deposited, doCombineTo, doCombineFrom, doCombineImmediate, doUnary, doShift, upper, pair, doMultiply, doDivide, doAccumulate, timed, doMultiplyBy, doMultiplyInto};
+use alu::Out;
+use encoding::Instruction;
 use machine::Core;
 use machine::Registers;
 use machine::Reply;
-use alu::Out;
-use encoding::Instruction;
+use operands::Effect;
 use products::Product;
 use products::Quotient;
-use operands::Effect;
 
 // The result is put into the operand.
 fn deposited(i: Instruction, k: Core, o: Out) -> Effect
@@ -157,7 +157,11 @@ pub fn multiply_by(i: Instruction, k: Core, a: u32) -> Effect
     let r = k.regs;
     let f = k.flags;
     let s = f.status;
-    timed(i, k, products::multiply(true, true, operands::value(i, r, a), i.immediate, s))
+    timed(
+        i,
+        k,
+        products::multiply(true, true, operands::value(i, r, a), i.immediate, s),
+    )
 }
 
 pub fn multiply_into(i: Instruction, k: Core, a: u32) -> Effect
@@ -166,5 +170,9 @@ pub fn multiply_into(i: Instruction, k: Core, a: u32) -> Effect
     let r = k.regs;
     let f = k.flags;
     let s = f.status;
-    timed(i, k, products::multiply(true, true, r.read(i.register), operands::value(i, r, a), s))
+    timed(
+        i,
+        k,
+        products::multiply(true, true, r.read(i.register), operands::value(i, r, a), s),
+    )
 }

@@ -7,9 +7,9 @@ ghost use lib.ListN.{length, getD, set};
 ghost use Rattle.machine.specs.Paging.{dwordAt, slot, dirFrame};
 ghost use Rattle.machine.specs.Audit.{first, inMemory, outside, exposed, tables, audit};
 ghost use Rattle.audit.specs.Searched.{foundOf, withTable, Sized, Clear, Flags, Held};
-use machine::Reply;
 use machine::Control;
 use machine::Cpu;
+use machine::Reply;
 
 // What a search finds: the lowest number that passes, if any does.
 enum Found {

@@ -84,8 +84,8 @@ afterSib eip md s =
     cond (eqb (s % 8) 5 && eqb md 0) (do
       x ← number eip 4
       return (inMemory 8 (indexOf s) (scaleOf s) x)) (do
-      x ← number eip (displacementBytes md)
-      return (inMemory (s % 8) (indexOf s) (scaleOf s) x))
+        x ← number eip (displacementBytes md)
+        return (inMemory (s % 8) (indexOf s) (scaleOf s) x))
 
 -- after the ModRM byte b
 unfoldable pub afterModrm : ℕ → ℕ → Act Operand

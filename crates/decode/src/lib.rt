@@ -7,10 +7,10 @@ ghost use Rattle.machine.specs.Paging.{view};
 ghost use Rattle.encoding.specs.Encodings.{Classed};
 ghost use Rattle.decode.specs.Decode.{signed, fetchSigned, fetchWord, fetchDword, number, scaleOf, indexOf, displacementBytes, afterSib, afterModrm, finish, withModrm, withOffset, classed, decode};
 ghost use Rattle.decode.specs.Read.{logAt, CodeOk, FetchOk, PrefixOk, OpcodeOk, gotOf, missOf, formedOf, spoiltOf, readyOf};
-use machine::Reply;
-use machine::Control;
 use encoding::Instruction;
 use encoding::Operand;
+use machine::Control;
+use machine::Reply;
 use paging::Linear;
 use paging::Physical;
 use paging::Translated;
@@ -68,9 +68,15 @@ fn open(mem: &[u8], c: Control, eip: u32) -> Code
 {
     let t = paging::translate(mem, c, false, Linear(eip));
     let Translated::Reached(p, _) = t else {
-        return Code { eip, start: Start::Unknown };
+        return Code {
+            eip,
+            start: Start::Unknown,
+        };
     };
-    Code { eip, start: Start::Near(p) }
+    Code {
+        eip,
+        start: Start::Near(p),
+    }
 }
 
 // The next byte, by a walk of its own.
@@ -267,13 +273,33 @@ fn after_sib(mem: &[u8], c: Control, s: Code, n: u32, md: u32, b: u32) -> Formed
         let Fetched::Got(x, k) = r0 else {
             return Formed::Spoilt(miss(r0));
         };
-        return Formed::Made(Operand { direct: false, register: 0, base: 8, index: index_of(b), scale: scale_of(b), displacement: x }, k);
+        return Formed::Made(
+            Operand {
+                direct: false,
+                register: 0,
+                base: 8,
+                index: index_of(b),
+                scale: scale_of(b),
+                displacement: x,
+            },
+            k,
+        );
     }
     let r1 = number(mem, c, s, n, displacement_bytes(md));
     let Fetched::Got(x, k) = r1 else {
         return Formed::Spoilt(miss(r1));
     };
-    Formed::Made(Operand { direct: false, register: 0, base: b % 8, index: index_of(b), scale: scale_of(b), displacement: x }, k)
+    Formed::Made(
+        Operand {
+            direct: false,
+            register: 0,
+            base: b % 8,
+            index: index_of(b),
+            scale: scale_of(b),
+            displacement: x,
+        },
+        k,
+    )
 }
 
 // What follows the ModRM byte b.
@@ -282,7 +308,17 @@ fn after_modrm(mem: &[u8], c: Control, s: Code, n: u32, b: u32) -> Formed
     ensures { λ r. ⌜ formedOf (s .eip) r ≡ afterModrm (s .eip) b (view (now (mem .entry)) c) (logAt (s .eip) n) ⌝ }
 {
     if 192 <= b {
-        return Formed::Made(Operand { direct: true, register: b % 8, base: 8, index: 8, scale: 1, displacement: 0 }, n);
+        return Formed::Made(
+            Operand {
+                direct: true,
+                register: b % 8,
+                base: 8,
+                index: 8,
+                scale: 1,
+                displacement: 0,
+            },
+            n,
+        );
     }
     if b % 8 == 4 {
         let r1 = fetch(mem, c, s, n);
@@ -296,13 +332,33 @@ fn after_modrm(mem: &[u8], c: Control, s: Code, n: u32, b: u32) -> Formed
         let Fetched::Got(x, k) = r0 else {
             return Formed::Spoilt(miss(r0));
         };
-        return Formed::Made(Operand { direct: false, register: 0, base: 8, index: 8, scale: 1, displacement: x }, k);
+        return Formed::Made(
+            Operand {
+                direct: false,
+                register: 0,
+                base: 8,
+                index: 8,
+                scale: 1,
+                displacement: x,
+            },
+            k,
+        );
     }
     let r2 = number(mem, c, s, n, displacement_bytes(b / 64));
     let Fetched::Got(x, k) = r2 else {
         return Formed::Spoilt(miss(r2));
     };
-    Formed::Made(Operand { direct: false, register: 0, base: b % 8, index: 8, scale: 1, displacement: x }, k)
+    Formed::Made(
+        Operand {
+            direct: false,
+            register: 0,
+            base: b % 8,
+            index: 8,
+            scale: 1,
+            displacement: x,
+        },
+        k,
+    )
 }
 
 // The immediate, and the whole instruction.
@@ -318,7 +374,15 @@ fn finish(mem: &[u8], k: Control, s: Code, n: u32, c: u32, b: u32, reg: u32, o: 
     let operation = encoding::operation_of(c, b, reg);
     let wide = encoding::is_wide(c, b);
     let immediate = encoding::immediate_of(c, x);
-    Decoded::Ready(Instruction { family, operation, wide, register: reg, operand: o, immediate, length })
+    Decoded::Ready(Instruction {
+        family,
+        operation,
+        wide,
+        register: reg,
+        operand: o,
+        immediate,
+        length,
+    })
 }
 
 fn with_modrm(mem: &[u8], k: Control, s: Code, n: u32, c: u32, b: u32) -> Decoded
@@ -351,7 +415,14 @@ fn with_offset(mem: &[u8], k: Control, s: Code, n: u32, c: u32, b: u32) -> Decod
     let Fetched::Got(x, j) = r0 else {
         return Decoded::Unready(miss(r0));
     };
-    let o = Operand { direct: false, register: 0, base: 8, index: 8, scale: 1, displacement: x };
+    let o = Operand {
+        direct: false,
+        register: 0,
+        base: 8,
+        index: 8,
+        scale: 1,
+        displacement: x,
+    };
     finish(mem, k, s, j, c, b, 0, o)
 }
 
@@ -371,7 +442,14 @@ fn classed(mem: &[u8], k: Control, s: Code, n: u32, c: u32, b: u32) -> Decoded
     if encoding::has_offset(c) {
         return with_offset(mem, k, s, n, c, b);
     }
-    let o = Operand { direct: true, register: encoding::implied_register(c, b), base: 8, index: 8, scale: 1, displacement: 0 };
+    let o = Operand {
+        direct: true,
+        register: encoding::implied_register(c, b),
+        base: 8,
+        index: 8,
+        scale: 1,
+        displacement: 0,
+    };
     finish(mem, k, s, n, c, b, 0, o)
 }
 

@@ -1,4 +1,6 @@
 // What an opcode is: the table of 512 classes, and the uniform Instruction that decoding makes.
+mod opcodes;
+
 ghost use mathlib.Core.Path.{_≡_};
 ghost use mathlib.Core.Bool.{cond};
 ghost use Prim.Native.Nat.{_<_};
@@ -7,90 +9,102 @@ ghost use Rattle.encoding.specs.Attributes.{hasModrm, hasOffset, isShift
 
 // The classes of specs/Encodings.
 pub const NOT_BUILT: u32 = 0;
-pub const OVERRIDE: u32 = 1;
-pub const ESCAPE: u32 = 2;
-pub const UNDEFINED: u32 = 3;
-pub const ARITHMETIC_TO: u32 = 4;
-pub const ARITHMETIC_FROM: u32 = 5;
-pub const ARITHMETIC_ACCUMULATOR: u32 = 6;
-pub const ARITHMETIC_GROUP: u32 = 7;
-pub const TEST_TO: u32 = 8;
-pub const TEST_ACCUMULATOR: u32 = 9;
-pub const UNARY_GROUP: u32 = 10;
-pub const MOVE_TO: u32 = 11;
-pub const MOVE_FROM: u32 = 12;
-pub const MOVE_FROM_OFFSET: u32 = 13;
-pub const MOVE_TO_OFFSET: u32 = 14;
-pub const MOVE_REGISTER: u32 = 15;
-pub const MOVE_GROUP: u32 = 16;
-pub const EXTEND_ZERO: u32 = 17;
-pub const EXTEND_SIGN: u32 = 18;
-pub const LOAD_ADDRESS: u32 = 19;
-pub const EXCHANGE: u32 = 20;
-pub const EXCHANGE_ACCUMULATOR: u32 = 21;
-pub const INCREMENT_REGISTER: u32 = 22;
-pub const DECREMENT_REGISTER: u32 = 23;
-pub const BYTE_GROUP: u32 = 24;
-pub const DWORD_GROUP: u32 = 25;
-pub const PUSH_REGISTER: u32 = 26;
-pub const PUSH_IMMEDIATE: u32 = 27;
-pub const POP_REGISTER: u32 = 28;
-pub const POP_GROUP: u32 = 29;
-pub const SHIFT_IMMEDIATE: u32 = 30;
-pub const SHIFT_ONE: u32 = 31;
-pub const SHIFT_CL: u32 = 32;
-pub const MULTIPLY_IMMEDIATE: u32 = 33;
-pub const MULTIPLY_REGISTER: u32 = 34;
-pub const WIDEN: u32 = 35;
-pub const JUMP_IF: u32 = 36;
-pub const JUMP_IF_NEAR: u32 = 37;
-pub const SET_IF: u32 = 38;
-pub const JUMP_BY: u32 = 39;
-pub const CALL_BY: u32 = 40;
-pub const RETURN_PLAIN: u32 = 41;
-pub const RETURN_POPPING: u32 = 42;
-pub const LOOP_BY: u32 = 43;
-pub const FLAG_OPERATION: u32 = 44;
-pub const FLAG_TRANSFER: u32 = 45;
-pub const BREAKPOINT: u32 = 46;
-pub const INTERRUPT: u32 = 47;
-pub const HALT_HERE: u32 = 48;
 
-// The class of each opcode: one-byte, then after 0F. specs/Encodings has the list that it agrees with.
-const CLASSES: [u8; 512] = [
-    4, 4, 5, 5, 6, 6, 0, 0, 4, 4, 5, 5, 6, 6, 0, 2,
-    4, 4, 5, 5, 6, 6, 0, 0, 4, 4, 5, 5, 6, 6, 0, 0,
-    4, 4, 5, 5, 6, 6, 1, 0, 4, 4, 5, 5, 6, 6, 1, 0,
-    4, 4, 5, 5, 6, 6, 1, 0, 4, 4, 5, 5, 6, 6, 1, 0,
-    22, 22, 22, 22, 22, 22, 22, 22, 23, 23, 23, 23, 23, 23, 23, 23,
-    26, 26, 26, 26, 26, 26, 26, 26, 28, 28, 28, 28, 28, 28, 28, 28,
-    0, 0, 0, 0, 1, 1, 0, 0, 27, 33, 27, 33, 0, 0, 0, 0,
-    36, 36, 36, 36, 36, 36, 36, 36, 36, 36, 36, 36, 36, 36, 36, 36,
-    7, 7, 7, 7, 8, 8, 20, 20, 11, 11, 12, 12, 0, 19, 0, 29,
-    21, 21, 21, 21, 21, 21, 21, 21, 35, 35, 0, 0, 0, 0, 45, 45,
-    13, 13, 14, 14, 0, 0, 0, 0, 9, 9, 0, 0, 0, 0, 0, 0,
-    15, 15, 15, 15, 15, 15, 15, 15, 15, 15, 15, 15, 15, 15, 15, 15,
-    30, 30, 42, 41, 0, 0, 16, 16, 0, 0, 0, 0, 46, 47, 0, 0,
-    31, 31, 32, 32, 0, 0, 0, 0, 0, 0, 0, 0, 0, 0, 0, 0,
-    43, 43, 43, 43, 0, 0, 0, 0, 40, 39, 0, 39, 0, 0, 0, 0,
-    0, 0, 0, 0, 48, 44, 10, 10, 44, 44, 44, 44, 44, 44, 24, 25,
-    0, 0, 0, 0, 0, 0, 0, 0, 0, 0, 0, 3, 0, 0, 0, 0,
-    0, 0, 0, 0, 0, 0, 0, 0, 0, 0, 0, 0, 0, 0, 0, 0,
-    0, 0, 0, 0, 0, 0, 0, 0, 0, 0, 0, 0, 0, 0, 0, 0,
-    0, 0, 0, 0, 0, 0, 0, 0, 0, 0, 0, 0, 0, 0, 0, 0,
-    0, 0, 0, 0, 0, 0, 0, 0, 0, 0, 0, 0, 0, 0, 0, 0,
-    0, 0, 0, 0, 0, 0, 0, 0, 0, 0, 0, 0, 0, 0, 0, 0,
-    0, 0, 0, 0, 0, 0, 0, 0, 0, 0, 0, 0, 0, 0, 0, 0,
-    0, 0, 0, 0, 0, 0, 0, 0, 0, 0, 0, 0, 0, 0, 0, 0,
-    37, 37, 37, 37, 37, 37, 37, 37, 37, 37, 37, 37, 37, 37, 37, 37,
-    38, 38, 38, 38, 38, 38, 38, 38, 38, 38, 38, 38, 38, 38, 38, 38,
-    0, 0, 0, 0, 0, 0, 0, 0, 0, 0, 0, 0, 0, 0, 0, 34,
-    0, 0, 0, 0, 0, 0, 17, 0, 0, 0, 0, 0, 0, 0, 18, 0,
-    0, 0, 0, 0, 0, 0, 0, 0, 0, 0, 0, 0, 0, 0, 0, 0,
-    0, 0, 0, 0, 0, 0, 0, 0, 0, 0, 0, 0, 0, 0, 0, 0,
-    0, 0, 0, 0, 0, 0, 0, 0, 0, 0, 0, 0, 0, 0, 0, 0,
-    0, 0, 0, 0, 0, 0, 0, 0, 0, 0, 0, 0, 0, 0, 0, 0,
-];
+pub const OVERRIDE: u32 = 1;
+
+pub const ESCAPE: u32 = 2;
+
+pub const UNDEFINED: u32 = 3;
+
+pub const ARITHMETIC_TO: u32 = 4;
+
+pub const ARITHMETIC_FROM: u32 = 5;
+
+pub const ARITHMETIC_ACCUMULATOR: u32 = 6;
+
+pub const ARITHMETIC_GROUP: u32 = 7;
+
+pub const TEST_TO: u32 = 8;
+
+pub const TEST_ACCUMULATOR: u32 = 9;
+
+pub const UNARY_GROUP: u32 = 10;
+
+pub const MOVE_TO: u32 = 11;
+
+pub const MOVE_FROM: u32 = 12;
+
+pub const MOVE_FROM_OFFSET: u32 = 13;
+
+pub const MOVE_TO_OFFSET: u32 = 14;
+
+pub const MOVE_REGISTER: u32 = 15;
+
+pub const MOVE_GROUP: u32 = 16;
+
+pub const EXTEND_ZERO: u32 = 17;
+
+pub const EXTEND_SIGN: u32 = 18;
+
+pub const LOAD_ADDRESS: u32 = 19;
+
+pub const EXCHANGE: u32 = 20;
+
+pub const EXCHANGE_ACCUMULATOR: u32 = 21;
+
+pub const INCREMENT_REGISTER: u32 = 22;
+
+pub const DECREMENT_REGISTER: u32 = 23;
+
+pub const BYTE_GROUP: u32 = 24;
+
+pub const DWORD_GROUP: u32 = 25;
+
+pub const PUSH_REGISTER: u32 = 26;
+
+pub const PUSH_IMMEDIATE: u32 = 27;
+
+pub const POP_REGISTER: u32 = 28;
+
+pub const POP_GROUP: u32 = 29;
+
+pub const SHIFT_IMMEDIATE: u32 = 30;
+
+pub const SHIFT_ONE: u32 = 31;
+
+pub const SHIFT_CL: u32 = 32;
+
+pub const MULTIPLY_IMMEDIATE: u32 = 33;
+
+pub const MULTIPLY_REGISTER: u32 = 34;
+
+pub const WIDEN: u32 = 35;
+
+pub const JUMP_IF: u32 = 36;
+
+pub const JUMP_IF_NEAR: u32 = 37;
+
+pub const SET_IF: u32 = 38;
+
+pub const JUMP_BY: u32 = 39;
+
+pub const CALL_BY: u32 = 40;
+
+pub const RETURN_PLAIN: u32 = 41;
+
+pub const RETURN_POPPING: u32 = 42;
+
+pub const LOOP_BY: u32 = 43;
+
+pub const FLAG_OPERATION: u32 = 44;
+
+pub const FLAG_TRANSFER: u32 = 45;
+
+pub const BREAKPOINT: u32 = 46;
+
+pub const INTERRUPT: u32 = 47;
+
+pub const HALT_HERE: u32 = 48;
 
 // An r/m operand: a register, or memory at base plus index times scale plus displacement, where base or index 8 is none.
 pub struct Operand {
@@ -104,32 +118,59 @@ pub struct Operand {
 
 // What an instruction does, once decoded: its family (specs/Families).
 pub const COMBINE_TO: u32 = 1;
+
 pub const COMBINE_FROM: u32 = 2;
+
 pub const COMBINE_IMMEDIATE: u32 = 3;
+
 pub const UNARY: u32 = 4;
+
 pub const SHIFT_BY: u32 = 5;
+
 pub const SHIFT_BY_CL: u32 = 6;
+
 pub const ACCUMULATE: u32 = 7;
+
 pub const MULTIPLY_BY: u32 = 8;
+
 pub const MULTIPLY_INTO: u32 = 9;
+
 pub const EXTEND: u32 = 10;
+
 pub const ADDRESS_OF: u32 = 11;
+
 pub const SWAP: u32 = 12;
+
 pub const PUSH: u32 = 13;
+
 pub const PUSH_NUMBER: u32 = 14;
+
 pub const POP: u32 = 15;
+
 pub const SET_ON: u32 = 16;
+
 pub const JUMP_ON: u32 = 17;
+
 pub const JUMP: u32 = 18;
+
 pub const JUMP_TO: u32 = 19;
+
 pub const CALL: u32 = 20;
+
 pub const CALL_TO: u32 = 21;
+
 pub const RETURN: u32 = 22;
+
 pub const LOOP: u32 = 23;
+
 pub const FLAG: u32 = 24;
+
 pub const TRANSFER: u32 = 25;
+
 pub const CONVERT: u32 = 26;
+
 pub const TRAP: u32 = 27;
+
 pub const HALT: u32 = 28;
 
 pub struct Instruction {
@@ -146,7 +187,7 @@ pub struct Instruction {
 pub fn classes() -> [u8; 512]
     ensures { λ r. ⌜ Classed r ⌝ }
 {
-    CLASSES
+    opcodes::CLASSES
 }
 
 fn wide(x: u8) -> u32
@@ -165,9 +206,27 @@ pub fn class_in(t: &[u8; 512], n: u32) -> u32
 pub fn has_modrm(c: u32) -> bool
     ensures { λ r. ⌜ r ≡ hasModrm c ⌝ }
 {
-    (c == ARITHMETIC_TO) | (c == ARITHMETIC_FROM) | (c == ARITHMETIC_GROUP) | (c == TEST_TO) | (c == UNARY_GROUP) | (c == MOVE_TO) | (c == MOVE_FROM)
-        | (c == MOVE_GROUP) | (c == EXTEND_ZERO) | (c == EXTEND_SIGN) | (c == LOAD_ADDRESS) | (c == EXCHANGE) | (c == BYTE_GROUP) | (c == DWORD_GROUP)
-        | (c == POP_GROUP) | (c == SHIFT_IMMEDIATE) | (c == SHIFT_ONE) | (c == SHIFT_CL) | (c == MULTIPLY_IMMEDIATE) | (c == MULTIPLY_REGISTER) | (c == SET_IF)
+    (c == ARITHMETIC_TO)
+        | (c == ARITHMETIC_FROM)
+        | (c == ARITHMETIC_GROUP)
+        | (c == TEST_TO)
+        | (c == UNARY_GROUP)
+        | (c == MOVE_TO)
+        | (c == MOVE_FROM)
+        | (c == MOVE_GROUP)
+        | (c == EXTEND_ZERO)
+        | (c == EXTEND_SIGN)
+        | (c == LOAD_ADDRESS)
+        | (c == EXCHANGE)
+        | (c == BYTE_GROUP)
+        | (c == DWORD_GROUP)
+        | (c == POP_GROUP)
+        | (c == SHIFT_IMMEDIATE)
+        | (c == SHIFT_ONE)
+        | (c == SHIFT_CL)
+        | (c == MULTIPLY_IMMEDIATE)
+        | (c == MULTIPLY_REGISTER)
+        | (c == SET_IF)
 }
 
 pub fn has_offset(c: u32) -> bool
@@ -206,7 +265,12 @@ pub fn unbuilt_form(c: u32, m: u32) -> bool
 fn by_low_bit(c: u32) -> bool
     ensures { λ r. ⌜ r ≡ byLowBit c ⌝ }
 {
-    ((ARITHMETIC_TO <= c) & (c <= MOVE_TO_OFFSET)) | (c == MOVE_GROUP) | (c == EXCHANGE) | (c == BYTE_GROUP) | (c == DWORD_GROUP) | is_shift(c)
+    ((ARITHMETIC_TO <= c) & (c <= MOVE_TO_OFFSET))
+        | (c == MOVE_GROUP)
+        | (c == EXCHANGE)
+        | (c == BYTE_GROUP)
+        | (c == DWORD_GROUP)
+        | is_shift(c)
 }
 
 pub fn is_wide(c: u32, b: u32) -> bool
@@ -224,7 +288,11 @@ pub fn is_wide(c: u32, b: u32) -> bool
 fn full_immediate(c: u32, reg: u32) -> bool
     ensures { λ r. ⌜ r ≡ fullImmediate c reg ⌝ }
 {
-    (c == ARITHMETIC_ACCUMULATOR) | (c == TEST_ACCUMULATOR) | (c == MOVE_REGISTER) | (c == MOVE_GROUP) | ((c == UNARY_GROUP) & (reg == 0))
+    (c == ARITHMETIC_ACCUMULATOR)
+        | (c == TEST_ACCUMULATOR)
+        | (c == MOVE_REGISTER)
+        | (c == MOVE_GROUP)
+        | ((c == UNARY_GROUP) & (reg == 0))
 }
 
 fn long_opcode(b: u32) -> bool
@@ -236,8 +304,16 @@ fn long_opcode(b: u32) -> bool
 fn has_immediate(c: u32) -> bool
     ensures { λ r. ⌜ r ≡ hasImmediate c ⌝ }
 {
-    (c == ARITHMETIC_GROUP) | (c == PUSH_IMMEDIATE) | (c == SHIFT_IMMEDIATE) | (c == MULTIPLY_IMMEDIATE) | (c == JUMP_IF) | (c == JUMP_IF_NEAR)
-        | (c == JUMP_BY) | (c == CALL_BY) | (c == LOOP_BY) | (c == INTERRUPT)
+    (c == ARITHMETIC_GROUP)
+        | (c == PUSH_IMMEDIATE)
+        | (c == SHIFT_IMMEDIATE)
+        | (c == MULTIPLY_IMMEDIATE)
+        | (c == JUMP_IF)
+        | (c == JUMP_IF_NEAR)
+        | (c == JUMP_BY)
+        | (c == CALL_BY)
+        | (c == LOOP_BY)
+        | (c == INTERRUPT)
 }
 
 fn four_or_one(four: bool) -> u32
@@ -276,7 +352,13 @@ pub fn immediate_of(c: u32, x: u32) -> u32
 pub fn implied_register(c: u32, b: u32) -> u32
     ensures { λ r. ⌜ r ≡ impliedRegister c b ⌝ }
 {
-    if (c == MOVE_REGISTER) | (c == EXCHANGE_ACCUMULATOR) | (c == INCREMENT_REGISTER) | (c == DECREMENT_REGISTER) | (c == PUSH_REGISTER) | (c == POP_REGISTER) {
+    if (c == MOVE_REGISTER)
+        | (c == EXCHANGE_ACCUMULATOR)
+        | (c == INCREMENT_REGISTER)
+        | (c == DECREMENT_REGISTER)
+        | (c == PUSH_REGISTER)
+        | (c == POP_REGISTER)
+    {
         return b % 8;
     }
     0
@@ -330,7 +412,10 @@ fn is_combined(c: u32, reg: u32) -> bool
 fn is_single(c: u32, reg: u32) -> bool
     ensures { λ r. ⌜ r ≡ isSingle c reg ⌝ }
 {
-    ((c == UNARY_GROUP) & (reg < 4)) | (c == INCREMENT_REGISTER) | (c == DECREMENT_REGISTER) | (((c == BYTE_GROUP) | (c == DWORD_GROUP)) & (reg < 2))
+    ((c == UNARY_GROUP) & (reg < 4))
+        | (c == INCREMENT_REGISTER)
+        | (c == DECREMENT_REGISTER)
+        | (((c == BYTE_GROUP) | (c == DWORD_GROUP)) & (reg < 2))
 }
 
 fn group_family(reg: u32) -> u32

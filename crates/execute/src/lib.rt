@@ -1,11 +1,11 @@
 // An instruction in document 01's phases: which accesses it makes, and what it computes of what they find. Memory is never touched here.
 ghost use mathlib.Core.Path.{_≡_};
 ghost use Rattle.execute.specs.Execute.{permitted, writesOperand, readsOperand, first, second, computeArithmetic, computeMove, computeFlow, computeOther, compute};
+use encoding::Instruction;
 use machine::Core;
 use machine::Registers;
 use machine::Reply;
 use machine::Want;
-use encoding::Instruction;
 use operands::Effect;
 
 // May it be carried out in this ring?
@@ -13,7 +13,9 @@ pub fn permitted(i: Instruction, iopl: u32, ring: u32) -> bool
     ensures { λ r. ⌜ r ≡ permitted i iopl ring ⌝ }
 {
     !((i.family == encoding::HALT) & (ring == 3))
-        & !((i.family == encoding::FLAG) & ((i.operation == 10) | (i.operation == 11)) & (iopl < ring))
+        & !((i.family == encoding::FLAG)
+            & ((i.operation == 10) | (i.operation == 11))
+            & (iopl < ring))
 }
 
 fn writes_operand(i: Instruction) -> bool
@@ -64,7 +66,11 @@ pub fn second(i: Instruction, r: Registers) -> Want
     ensures { λ t. ⌜ t ≡ second i r ⌝ }
 {
     let f = i.family;
-    if (f == encoding::PUSH) | (f == encoding::PUSH_NUMBER) | (f == encoding::CALL) | (f == encoding::CALL_TO) {
+    if (f == encoding::PUSH)
+        | (f == encoding::PUSH_NUMBER)
+        | (f == encoding::CALL)
+        | (f == encoding::CALL_TO)
+    {
         return Want::Write(true, operands::lowered(r));
     }
     if f == encoding::POP {

@@ -17,7 +17,7 @@ withCarry f b =
     record {
       status = record { cf = b; pf = f .status .pf; af = f .status .af; zf = f .status .zf; sf = f .status .sf; of = f .status .of };
       interrupt = f .interrupt;
-      direction = f .direction
+      direction = f .direction;
     }
 
 abbrev pub withInterrupt : Flags → Bool → Flags

@@ -2,9 +2,9 @@
 ghost use mathlib.Core.Path.{_≡_};
 ghost use mathlib.Core.Bool.{cond};
 ghost use Rattle.flow.specs.Flow.{jumped, again, counted, looped, doJumpOn, doJump, doJumpTo, doLoop, doTrap, doHalt};
+use encoding::Instruction;
 use machine::Core;
 use machine::Reply;
-use encoding::Instruction;
 use operands::Effect;
 
 fn jumped(k: Core, eip: u32) -> Effect
@@ -28,7 +28,14 @@ pub fn jump_on(i: Instruction, k: Core) -> Effect
     let f = k.flags;
     let s = f.status;
     let test = conditions::condition(i.operation, s);
-    jumped(k, either(test, operands::target(i, k, i.immediate), operands::next(i, k)))
+    jumped(
+        k,
+        either(
+            test,
+            operands::target(i, k, i.immediate),
+            operands::next(i, k),
+        ),
+    )
 }
 
 pub fn jump(i: Instruction, k: Core) -> Effect
@@ -65,7 +72,11 @@ fn looped(i: Instruction, k: Core) -> Effect
     let s = f.status;
     let n = std::num::wrapping_add_u32(r.read(1), 4294967295);
     let test = !(n == 0) & by_zero_flag(i.operation, s.zf);
-    let eip = either(test, operands::target(i, k, i.immediate), operands::next(i, k));
+    let eip = either(
+        test,
+        operands::target(i, k, i.immediate),
+        operands::next(i, k),
+    );
     operands::went(r.with(1, n), eip, f, 0)
 }
 
@@ -75,7 +86,14 @@ pub fn again(i: Instruction, k: Core) -> Effect
     if i.operation == 3 {
         let r = k.regs;
         let test = r.read(1) == 0;
-        return jumped(k, either(test, operands::target(i, k, i.immediate), operands::next(i, k)));
+        return jumped(
+            k,
+            either(
+                test,
+                operands::target(i, k, i.immediate),
+                operands::next(i, k),
+            ),
+        );
     }
     looped(i, k)
 }

@@ -78,7 +78,7 @@ flagsIn e =
     record {
       status = record { cf = eqb (e % 2) 1; pf = has 4 e; af = has 16 e; zf = has 64 e; sf = has 128 e; of = has 2048 e };
       interrupt = has 512 e;
-      direction = has 1024 e
+      direction = has 1024 e;
     }
 
 -- EFLAGS with these flags: bit 1 is set, and IOPL is as it was in e

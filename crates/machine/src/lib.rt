@@ -176,7 +176,11 @@ pub fn unpack(e: u32) -> Flags
         sf: e / 128 % 2 == 1,
         of: e / 2048 % 2 == 1,
     };
-    Flags { status, interrupt: e / 512 % 2 == 1, direction: e / 1024 % 2 == 1 }
+    Flags {
+        status,
+        interrupt: e / 512 % 2 == 1,
+        direction: e / 1024 % 2 == 1,
+    }
 }
 
 // EFLAGS with these flags: bit 1 set, IOPL as in e.
@@ -184,8 +188,17 @@ pub fn pack(e: u32, f: Flags) -> u32
     ensures { λ r. ⌜ r ≡ pack e f ⌝ }
 {
     let s = f.status;
-    let low = 2 + weighed(s.cf, 1) + weighed(s.pf, 4) + weighed(s.af, 16) + weighed(s.zf, 64) + weighed(s.sf, 128);
-    low + weighed(f.interrupt, 512) + weighed(f.direction, 1024) + weighed(s.of, 2048) + e / 4096 % 4 * 4096
+    let low = 2
+        + weighed(s.cf, 1)
+        + weighed(s.pf, 4)
+        + weighed(s.af, 16)
+        + weighed(s.zf, 64)
+        + weighed(s.sf, 128);
+    low
+        + weighed(f.interrupt, 512)
+        + weighed(f.direction, 1024)
+        + weighed(s.of, 2048)
+        + e / 4096 % 4 * 4096
 }
 
 // Is the record sound, with a memory of n bytes?
@@ -196,9 +209,16 @@ pub fn sound(n: usize, c: Cpu) -> bool
     let e = c.eflags;
     let size = (n % 4096 == 0) & (4096 <= n) & (n <= 16777216);
     let ring = (k.ring == 0) | (k.ring == 3);
-    let cr0 = (k.cr0 % 2 == 1) & (k.cr0 / 2 % 8 == 0) & (k.cr0 / 32 % 2048 == 0) & (k.cr0 / 131072 % 16384 == 0);
+    let cr0 = (k.cr0 % 2 == 1)
+        & (k.cr0 / 2 % 8 == 0)
+        & (k.cr0 / 32 % 2048 == 0)
+        & (k.cr0 / 131072 % 16384 == 0);
     let cr3 = (k.cr3 % 8 == 0) & (k.cr3 / 32 % 128 == 0);
-    let flags = (e / 2 % 2 == 1) & (e / 8 % 2 == 0) & (e / 32 % 2 == 0) & (e / 256 % 2 == 0) & (e < 16384);
+    let flags = (e / 2 % 2 == 1)
+        & (e / 8 % 2 == 0)
+        & (e / 32 % 2 == 0)
+        & (e / 256 % 2 == 0)
+        & (e < 16384);
     size & ring & cr0 & cr3 & flags
 }
 
@@ -207,7 +227,11 @@ pub fn core_of(c: Cpu) -> Core
     ensures { λ r. ⌜ r ≡ coreOf c ⌝ }
 {
     let regs = c.regs;
-    Core { regs, eip: c.eip, flags: unpack(c.eflags) }
+    Core {
+        regs,
+        eip: c.eip,
+        flags: unpack(c.eflags),
+    }
 }
 
 // The record with another core.
@@ -217,7 +241,12 @@ pub fn with_core(c: Cpu, k: Core) -> Cpu
     let regs = k.regs;
     let f = k.flags;
     let control = c.control;
-    Cpu { regs, eip: k.eip, eflags: pack(c.eflags, f), control }
+    Cpu {
+        regs,
+        eip: k.eip,
+        eflags: pack(c.eflags, f),
+        control,
+    }
 }
 
 pub fn is_done(q: Reply) -> bool

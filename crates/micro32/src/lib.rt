@@ -12,12 +12,12 @@ ghost use Rattle.micro32.specs.Step.{micro32};
 ghost use Rattle.micro32.specs.Told.{telling, told, runTelling, runTold};
 ghost use Rattle.micro32.specs.Boundary.{answerOf, ranAnswered};
 ghost use Rattle.micro32.specs.Planned.{PlanOk, left, unreadyOf, goneOf, stoppedOf};
-use machine::Core;
-use machine::Cpu;
-use machine::Reply;
 use access::Access;
 use access::Located;
 use decode::Decoded;
+use machine::Core;
+use machine::Cpu;
+use machine::Reply;
 
 // What a step answers: the reply, and the record after it.
 pub struct Stepped {
@@ -81,7 +81,15 @@ fn stopped(k: Core, q: Reply) -> Planned
     ensures { λ p. ⌜ p ≡ stoppedOf k q ⌝ }
 {
     let none = access::nowhere();
-    Planned { done: false, reply: q, core: k, value: 0, length: 0, first: none, second: none }
+    Planned {
+        done: false,
+        reply: q,
+        core: k,
+        value: 0,
+        length: 0,
+        first: none,
+        second: none,
+    }
 }
 
 // Looks at the instruction at EIP, phase by phase; memory is only read.
@@ -110,7 +118,15 @@ fn plan(c: Cpu, mem: &[u8], t: &[u8; 512]) -> Planned
     let e = execute::compute(i, core, a.value);
     let q = e.reply;
     let after = e.core;
-    Planned { done: machine::is_done(q), reply: q, core: after, value: e.value, length: i.length, first: a, second: b }
+    Planned {
+        done: machine::is_done(q),
+        reply: q,
+        core: after,
+        value: e.value,
+        length: i.length,
+        first: a,
+        second: b,
+    }
 }
 
 // Marks, then stores.
@@ -133,7 +149,10 @@ fn advance(c: Cpu, mem: &mut [u8], t: &[u8; 512]) -> Stepped
     ensures { λ r. ⌜ record { reply = r .reply; cpu = r .cpu; mem = now (mem .exit) } ≡ step micro32 (now (mem .entry)) c ⌝ }
 {
     if !machine::sound(mem.len(), c) {
-        return Stepped { reply: Reply::BadRecord, cpu: c };
+        return Stepped {
+            reply: Reply::BadRecord,
+            cpu: c,
+        };
     }
     let p = plan(c, mem, t);
     if !p.done {
@@ -145,7 +164,10 @@ fn advance(c: Cpu, mem: &mut [u8], t: &[u8; 512]) -> Stepped
     access::mark_trail(mem, s, false);
     leave(mem, p);
     let core = p.core;
-    Stepped { reply: Reply::Done, cpu: machine::with_core(c, core) }
+    Stepped {
+        reply: Reply::Done,
+        cpu: machine::with_core(c, core),
+    }
 }
 
 // One step.
@@ -161,7 +183,11 @@ pub fn run(c: Cpu, mem: &mut [u8], budget: u32) -> Ran
     ensures { λ r. ⌜ runTelling (r .count) (r .reply) (r .cpu) (now (mem .exit)) ≡ runTold (run micro32 budget (now (mem .entry)) c) ⌝ }
 {
     if !machine::sound(mem.len(), c) {
-        return Ran { count: 0, reply: Reply::BadRecord, cpu: c };
+        return Ran {
+            count: 0,
+            reply: Reply::BadRecord,
+            cpu: c,
+        };
     }
     let t = encoding::classes();
     let mut n: u32 = 0;
@@ -172,11 +198,19 @@ pub fn run(c: Cpu, mem: &mut [u8], budget: u32) -> Ran
         let e = s.cpu;
         d = e;
         let Reply::Done = k else {
-            return Ran { count: n, reply: k, cpu: d };
+            return Ran {
+                count: n,
+                reply: k,
+                cpu: d,
+            };
         };
         n += 1;
     }
-    Ran { count: n, reply: Reply::Spent, cpu: d }
+    Ran {
+        count: n,
+        reply: Reply::Spent,
+        cpu: d,
+    }
 }
 
 // Do the maps keep the user away from the directory and the tables? It reads CR3 whatever PG says, and changes nothing.
@@ -191,17 +225,83 @@ fn answer_of(q: Reply, count: u32) -> Answer
     ensures { λ r. ⌜ r ≡ answerOf q count ⌝ }
 {
     match q {
-        Reply::Done => Answer { number: 0, a: 0, b: 0, c: 0, count },
-        Reply::Fault(vector, code, address) => Answer { number: 1, a: vector, b: code, c: address, count },
-        Reply::Trap(vector, next) => Answer { number: 2, a: vector, b: next, c: 0, count },
-        Reply::Halt(next) => Answer { number: 3, a: next, b: 0, c: 0, count },
-        Reply::BadRecord => Answer { number: 4, a: 0, b: 0, c: 0, count },
-        Reply::NoMemory(physical) => Answer { number: 5, a: physical, b: 0, c: 0, count },
-        Reply::NotBuilt(eip) => Answer { number: 6, a: eip, b: 0, c: 0, count },
-        Reply::Spent => Answer { number: 7, a: 0, b: 0, c: 0, count },
-        Reply::Safe => Answer { number: 8, a: 0, b: 0, c: 0, count },
-        Reply::TableOutside(index) => Answer { number: 9, a: index, b: 0, c: 0, count },
-        Reply::Exposed(page) => Answer { number: 10, a: page, b: 0, c: 0, count },
+        Reply::Done => Answer {
+            number: 0,
+            a: 0,
+            b: 0,
+            c: 0,
+            count,
+        },
+        Reply::Fault(vector, code, address) => Answer {
+            number: 1,
+            a: vector,
+            b: code,
+            c: address,
+            count,
+        },
+        Reply::Trap(vector, next) => Answer {
+            number: 2,
+            a: vector,
+            b: next,
+            c: 0,
+            count,
+        },
+        Reply::Halt(next) => Answer {
+            number: 3,
+            a: next,
+            b: 0,
+            c: 0,
+            count,
+        },
+        Reply::BadRecord => Answer {
+            number: 4,
+            a: 0,
+            b: 0,
+            c: 0,
+            count,
+        },
+        Reply::NoMemory(physical) => Answer {
+            number: 5,
+            a: physical,
+            b: 0,
+            c: 0,
+            count,
+        },
+        Reply::NotBuilt(eip) => Answer {
+            number: 6,
+            a: eip,
+            b: 0,
+            c: 0,
+            count,
+        },
+        Reply::Spent => Answer {
+            number: 7,
+            a: 0,
+            b: 0,
+            c: 0,
+            count,
+        },
+        Reply::Safe => Answer {
+            number: 8,
+            a: 0,
+            b: 0,
+            c: 0,
+            count,
+        },
+        Reply::TableOutside(index) => Answer {
+            number: 9,
+            a: index,
+            b: 0,
+            c: 0,
+            count,
+        },
+        Reply::Exposed(page) => Answer {
+            number: 10,
+            a: page,
+            b: 0,
+            c: 0,
+            count,
+        },
     }
 }
 

@@ -4,9 +4,9 @@ ghost use Prim.Native.Nat.{_<_};
 ghost use Rattle.machine.specs.Record.{digit};
 ghost use Rattle.conditions.specs.Conditions.{holds};
 ghost use Rattle.moves.specs.Moves.{extended, doExtend, doAddress, doSwap, doSet, signedWord, signs, doConvert};
-use machine::Core;
-use encoding::Instruction;
 use alu::Status;
+use encoding::Instruction;
+use machine::Core;
 use operands::Effect;
 
 fn extended(op: u32, x: u32) -> u32
@@ -43,7 +43,12 @@ pub fn swap(i: Instruction, k: Core, a: u32) -> Effect
     let x = operands::value(i, r, a);
     let y = r.read_at(i.wide, i.register);
     let q = operands::deposit(i, r, y);
-    operands::went(q.write_at(i.wide, i.register, x), operands::next(i, k), f, y)
+    operands::went(
+        q.write_at(i.wide, i.register, x),
+        operands::next(i, k),
+        f,
+        y,
+    )
 }
 
 // 1 where a condition holds, by its number.

@@ -2,14 +2,14 @@
 ghost use mathlib.Core.Path.{_≡_};
 ghost use Prim.Native.Nat.{_<_, _≤_};
 ghost use Rattle.operands.specs.Operands.{scaled, address, operandWant, operandValue, deposit, lowered, raised, next, target, went, refused, onward, advanced};
+use alu::Status;
+use encoding::Instruction;
+use encoding::Operand;
 use machine::Core;
 use machine::Flags;
 use machine::Registers;
 use machine::Reply;
 use machine::Want;
-use alu::Status;
-use encoding::Instruction;
-use encoding::Operand;
 
 // What an instruction does: the reply, Done where it is carried out; the core after; the value to store where it writes.
 pub struct Effect {
@@ -110,13 +110,25 @@ pub fn target(i: Instruction, k: Core, x: u32) -> u32
 pub fn went(r: Registers, eip: u32, f: Flags, x: u32) -> Effect
     ensures { λ e. ⌜ e ≡ went r eip f x ⌝ }
 {
-    Effect { reply: Reply::Done, core: Core { regs: r, eip, flags: f }, value: x }
+    Effect {
+        reply: Reply::Done,
+        core: Core {
+            regs: r,
+            eip,
+            flags: f,
+        },
+        value: x,
+    }
 }
 
 pub fn refused(k: Core, q: Reply) -> Effect
     ensures { λ e. ⌜ e ≡ refused k q ⌝ }
 {
-    Effect { reply: q, core: k, value: 0 }
+    Effect {
+        reply: q,
+        core: k,
+        value: 0,
+    }
 }
 
 // On to the next instruction, with these registers.
@@ -132,6 +144,10 @@ pub fn advanced(i: Instruction, k: Core, r: Registers, s: Status, x: u32) -> Eff
     ensures { λ e. ⌜ e ≡ advanced i k r s x ⌝ }
 {
     let f = k.flags;
-    let g = Flags { status: s, interrupt: f.interrupt, direction: f.direction };
+    let g = Flags {
+        status: s,
+        interrupt: f.interrupt,
+        direction: f.direction,
+    };
     went(r, next(i, k), g, x)
 }

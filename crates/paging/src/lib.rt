@@ -7,8 +7,8 @@ ghost use lib.Dec.{eqb};
 ghost use Rattle.machine.specs.Record.{at};
 ghost use Rattle.machine.specs.Paging.{dwordAt, slot, rights, pageFault};
 ghost use Rattle.paging.specs.Walked.{OnPage, Flat, Walked};
-use machine::Reply;
 use machine::Control;
+use machine::Reply;
 
 pub struct Linear(pub u32);
 
@@ -51,7 +51,10 @@ fn slow(mem: &[u8], i: usize) -> u32
     requires { ⌜ i < 2 ^ 46 ⌝ }
     ensures { λ r. ⌜ r ≡ dwordAt (now (mem .entry)) i ⌝ }
 {
-    byte_at(mem, i) + 256 * byte_at(mem, i + 1) + 65536 * byte_at(mem, i + 2) + 16777216 * byte_at(mem, i + 3)
+    byte_at(mem, i)
+        + 256 * byte_at(mem, i + 1)
+        + 65536 * byte_at(mem, i + 2)
+        + 16777216 * byte_at(mem, i + 3)
 }
 
 fn fast(mem: &[u8], i: usize) -> u32
@@ -66,7 +69,11 @@ fn dword(mem: &[u8], i: usize) -> u32
     requires { ⌜ i < 2 ^ 46 ⌝ }
     ensures { λ r. ⌜ r ≡ dwordAt (now (mem .entry)) i ⌝ }
 {
-    if i + 3 < mem.len() { fast(mem, i) } else { slow(mem, i) }
+    if i + 3 < mem.len() {
+        fast(mem, i)
+    } else {
+        slow(mem, i)
+    }
 }
 
 // The dword at a physical address.

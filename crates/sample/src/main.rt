@@ -60,10 +60,17 @@ fn maps(mem: &mut [u8]) {
 
 fn user(eip: u32) -> Cpu {
     Cpu {
-        regs: Registers { e: [0, 0, 0, 0, 0x7000, 0, 0, 0] },
+        regs: Registers {
+            e: [0, 0, 0, 0, 0x7000, 0, 0, 0],
+        },
         eip,
         eflags: 0x202,
-        control: Control { cr0: 0x8001_0001, cr2: 0, cr3: 0x1000, ring: 3 },
+        control: Control {
+            cr0: 0x8001_0001,
+            cr2: 0,
+            cr3: 0x1000,
+            ring: 3,
+        },
     }
 }
 
@@ -136,7 +143,11 @@ fn main() {
     let mut mem = [0u8; 65536];
     maps(&mut mem);
     // MOV EAX,[5000]; MOV EDX,[5004]; SUB EAX,[5010]; SBB EDX,[5014]; JNZ changed; INT 20; changed: INT 21
-    load(&mut mem, 0x4000, b"\xa1\x00\x50\x00\x00\x8b\x15\x04\x50\x00\x00\x2b\x05\x10\x50\x00\x00\x1b\x15\x14\x50\x00\x00\x75\x02\xcd\x20\xcd\x21");
+    load(
+        &mut mem,
+        0x4000,
+        b"\xa1\x00\x50\x00\x00\x8b\x15\x04\x50\x00\x00\x2b\x05\x10\x50\x00\x00\x1b\x15\x14\x50\x00\x00\x75\x02\xcd\x20\xcd\x21",
+    );
     // MOV [3000],EAX
     load(&mut mem, 0x4100, b"\xa3\x00\x30\x00\x00");
     put_dword(&mut mem, 0x3000, 0x1234_5678);

@@ -39,7 +39,7 @@ shiftLeft w n v s =
       value = times (left w) n v;
       status =
           shiftStatus w n s (times (left w) n v) (sign w (times (left w) (n - 1) v))
-          (not (Bool·beq (sign w (times (left w) n v)) (sign w (times (left w) (n - 1) v))))
+          (not (Bool·beq (sign w (times (left w) n v)) (sign w (times (left w) (n - 1) v))));
     }
 
 -- CF is the low bit that leaves; OF: the old top bit
@@ -51,7 +51,7 @@ abbrev pub shiftRightSigned : ℕ → ℕ → ℕ → Status → Out
 shiftRightSigned w n v s =
     record {
       value = times (rightSigned w) n v;
-      status = shiftStatus w n s (times (rightSigned w) n v) (odd (times (rightSigned w) (n - 1) v)) false
+      status = shiftStatus w n s (times (rightSigned w) n v) (odd (times (rightSigned w) (n - 1) v)) false;
     }
 
 -- by the reg field: 4 SHL, 5 SHR; any other is SAR, 7

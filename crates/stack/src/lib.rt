@@ -1,8 +1,8 @@
 // PUSH, POP, CALL and RET: a value that is pushed is stored by the second access.
 ghost use mathlib.Core.Path.{_≡_};
 ghost use Rattle.stack.specs.Stack.{pushed, doPush, doPushNumber, doPop, doCall, doCallTo, doReturn};
-use machine::Core;
 use encoding::Instruction;
+use machine::Core;
 use operands::Effect;
 
 // x goes on the stack, and the program goes on at eip.
@@ -32,7 +32,12 @@ pub fn pop(i: Instruction, k: Core, a: u32) -> Effect
 {
     let r = k.regs;
     let f = k.flags;
-    operands::went(operands::deposit(i, operands::raised(r), a), operands::next(i, k), f, a)
+    operands::went(
+        operands::deposit(i, operands::raised(r), a),
+        operands::next(i, k),
+        f,
+        a,
+    )
 }
 
 pub fn call(i: Instruction, k: Core) -> Effect

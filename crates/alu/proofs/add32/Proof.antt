@@ -7,7 +7,7 @@ use Rattle.alu.proofs.add32.Tie as tie
 
 returns : tie.Need-returns
 unfolding sumStatus
-returns c = 
+returns c =
     let x = c .before .before .args in
     let o = add-of 2147483648 (x .a) (x .b) (bit (x .c)) (search needs) (search needs) (bit-le (x .c)) in
     simp (c .even .ensures, c .before .one .ensures .0, o) refl
