@@ -10,6 +10,8 @@ use Rattle.machine.specs.Audit.{audit}
 use Rattle.machine.specs.Run.{step, run}
 use Rattle.machine.proofs.Numbers.{numbered-same}
 use Rattle.micro32.specs.Step.{micro32}
+use Rattle.micro32.specs.declared.Answer.{Answer}
+use Rattle.micro32.specs.Boundary.{Answered, answerOf, ranAnswered}
 use Rattle.micro32.specs.Told.{Told, telling, told, RunTold, runTelling, runTold}
 
 -- equal numbers and values are equal replies
@@ -30,3 +32,11 @@ module _ (p q : Reply) (c d : Cpu) (m n : Mem) where
 
 pub audit-once : (p q : Reply) (x : Mem) (r : Cpu) → numbered p ≡ numbered (audit x r) → numbered q ≡ numbered (audit x r) → p ≡ q
 audit-once p q x r e f = numbered-same p q (e ∙ sym f)
+
+-- ---- for hosts: the lent record, and the audit by its numbers
+
+pub lent-once : (p q : Answered) (budget : ℕ) (x : Mem) (r : Cpu) → p ≡ ranAnswered (run micro32 budget x r) → q ≡ ranAnswered (run micro32 budget x r) → p ≡ q
+lent-once p q budget x r e f = e ∙ sym f
+
+pub audited-once : (p q : Answer) (x : Mem) (r : Cpu) → p ≡ answerOf (audit x r) 0 → q ≡ answerOf (audit x r) 0 → p ≡ q
+audited-once p q x r e f = e ∙ sym f
