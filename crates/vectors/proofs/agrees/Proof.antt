@@ -1,0 +1,86 @@
+-- `vectors::agrees` is safe and ends. Assumes nothing.
+use borrow.Author.Needs.{needs}
+use mathlib.Core.Path.{_∙_}
+use Rattle.vectors.proofs.agrees.Statement.{statement}
+use Rattle.vectors.proofs.agrees.Tie as tie
+
+lay-all-requires : tie.Need-lay-all-requires
+lay-all-requires c κs = search needs
+
+lay-all-requires-2 : tie.Need-lay-all-requires-2
+lay-all-requires-2 c κs = search needs
+
+record-requires : tie.Need-record-requires
+record-requires c κs = search needs
+
+step-requires : tie.Need-step-requires
+step-requires c κs = search needs
+
+number-requires : tie.Need-number-requires
+number-requires c κs = search needs
+
+plus-requires : tie.Need-plus-requires
+plus-requires c κs = search needs
+
+same-done-requires : tie.Need-same-done-requires
+same-done-requires c κs = search needs
+
+plus-requires-2 : tie.Need-plus-requires-2
+plus-requires-2 c κs = search needs
+
+same-record-requires : tie.Need-same-record-requires
+same-record-requires c κs = search needs
+
+patch-requires : tie.Need-patch-requires
+patch-requires c κs = search needs
+
+answer-requires : tie.Need-answer-requires
+answer-requires c κs = search needs
+
+same-reply-requires : tie.Need-same-reply-requires
+same-reply-requires c κs = search needs
+
+same-laid-requires : tie.Need-same-laid-requires
+same-laid-requires c κs = search needs
+
+same-stores-requires : tie.Need-same-stores-requires
+same-stores-requires c κs = search needs
+
+clear-requires : tie.Need-clear-requires
+clear-requires c κs = search needs
+
+clear-requires-2 : tie.Need-clear-requires-2
+clear-requires-2 c κs = search needs
+
+same-length : tie.Need-same-length
+same-length c = ((c .before .before .before .before .before .before .clear .kept .0)) ∙ ((c .before .before .before .before .before .before .before .before .before .before .before .before .before .before .before .before .before .before .before .before .before .before .before .before .before .before .step .kept .1 .0)) ∙ ((c .before .before .before .before .before .before .before .before .before .before .before .before .before .before .before .before .before .before .before .before .before .before .before .before .before .before .before .before .before .before .before .before .before .before .before .lay-all .kept .0))
+
+same-length-2 : tie.Need-same-length-2
+same-length-2 c = ((c .before .before .clear2 .kept .0)) ∙ ((c .before .before .before .before .before .before .before .before .before .before .before .before .before .before .before .before .before .before .before .patch .kept .0)) ∙ ((c .before .before .before .before .before .before .before .before .before .before .before .before .before .before .before .before .before .before .before .before .before .before .before .before .before .before .before .before .before .before .before .lay-all2 .kept .0))
+
+returns : tie.Need-returns
+returns c = search needs
+
+pub agrees-spec : {M : Type 1} → statement M
+agrees-spec =
+    tie.close
+    (tie.spec
+    lay-all-requires
+    lay-all-requires-2
+    record-requires
+    step-requires
+    number-requires
+    plus-requires
+    same-done-requires
+    plus-requires-2
+    same-record-requires
+    patch-requires
+    answer-requires
+    same-reply-requires
+    same-laid-requires
+    same-stores-requires
+    clear-requires
+    clear-requires-2
+    same-length
+    same-length-2
+    returns)
