@@ -207,8 +207,7 @@ def main():
             q = reply(c, r)
         except AssertionError as e:
             print("case", n, c.form.family, c.code.hex(), "eip", hex(c.eip), "ring", c.ring, "paged", c.paged, r.vector, r.missing, r.accesses, hex(r.cr2), repr(e))
-            bad += 1
-            continue
+            raise
         if q[0] == DONE:
             settle(c, r)
         replies[q[0], q[1] if q[0] == FAULT else 0] += 1
