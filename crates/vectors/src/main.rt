@@ -433,7 +433,8 @@ fn part(s: &[u8], family: u32) {
 
 // The name of a family.
 fn name(family: u32) {
-    let s = b"ADD     OR      ADC     SBB     AND     SUB     XOR     CMP     TEST    NOT     NEG     MUL     IMUL    DIV     IDIV    INC     DEC     CONVERT MOV     MOVZX   MOVSX   LEA     XCHG    PUSH    POP     SHL     SHR     SAR     Jcc     SETcc   JMP     CALL    RET     LOOP    FLAGS   LAHF    INT     HLT     FAULT6  UNBUILT MARKS   ORDER   WRAP    LENGTH  RECORD  ";
+    let s =
+        b"ADD     OR      ADC     SBB     AND     SUB     XOR     CMP     TEST    NOT     NEG     MUL     IMUL    DIV     IDIV    INC     DEC     CONVERT MOV     MOVZX   MOVSX   LEA     XCHG    PUSH    POP     SHL     SHR     SAR     Jcc     SETcc   JMP     CALL    RET     LOOP    FLAGS   LAHF    INT     HLT     FAULT6  UNBUILT MARKS   ORDER   WRAP    LENGTH  RECORD  ";
     part(s, family);
 }
 
@@ -510,7 +511,12 @@ fn stray_now(cases: u32, mem: &[u8]) -> u32 {
 }
 
 fn sum_strays(all: Row, stray: u32) -> Row {
-    Row { family: plus(all.family, stray), cases: all.cases, differing: all.differing, first: all.first }
+    Row {
+        family: plus(all.family, stray),
+        cases: all.cases,
+        differing: all.differing,
+        first: all.first,
+    }
 }
 
 fn end(row: Row, all: Row, mem: &[u8]) {
@@ -519,7 +525,12 @@ fn end(row: Row, all: Row, mem: &[u8]) {
 }
 
 fn table(fd: i32, b: &mut [u8], mem: &mut [u8], want: &mut [u8]) {
-    let mut row = Row { family: 0, cases: 0, differing: 0, first: 0 };
+    let mut row = Row {
+        family: 0,
+        cases: 0,
+        differing: 0,
+        first: 0,
+    };
     let mut all = row;
     let mut turns: u32 = 0;
     while turns < 65536 {
