@@ -1,1 +1,2 @@
+pub mod SafeSomewhere
 pub mod Wrong
