@@ -1,4 +1,6 @@
 // Linear and physical addresses, and the walk of the pages that leads from one to the other.
+pub mod quiet;
+
 ghost use mathlib.Core.Path.{_≡_};
 ghost use mathlib.Core.Bool.{Bool, true, false, cond};
 ghost use Prim.Native.Nat.{ℕ, _+_, _*_, _/_, _%_, _<_, _≤_, _^_};
