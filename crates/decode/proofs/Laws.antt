@@ -31,7 +31,7 @@ use Rattle.decode.specs.Read.{logAt, gotOf, missOf, formedOf, spoiltOf, 
 
 -- ---- one fetch
 
-span-more : (eip n : ℕ) → span false eip (n + 1) ≡ span false eip n ++ (touch false (wrap (eip + n)) ∷ [])
+pub span-more : (eip n : ℕ) → span false eip (n + 1) ≡ span false eip n ++ (touch false (wrap (eip + n)) ∷ [])
 unfolding span
 span-more eip n = rw add-one
 

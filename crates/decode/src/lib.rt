@@ -154,7 +154,7 @@ fn fetch_dword(mem: &[u8], c: Control, s: Code, n: u32) -> Fetched
     Fetched::Got(joined(b0, b1, b2, b3), n3)
 }
 
-fn extend(x: u32) -> u32
+pub fn extend(x: u32) -> u32
     requires { ⌜ x < 256 ⌝ }
     ensures { λ r. ⌜ r ≡ signed x ⌝ }
 {
@@ -228,7 +228,7 @@ fn opcode(mem: &[u8], c: Control, t: &[u8; 512], s: Code) -> Fetched
     Fetched::Got(d + 256, k)
 }
 
-fn scale_of(s: u32) -> u32
+pub fn scale_of(s: u32) -> u32
     ensures { λ r. ⌜ r ≡ scaleOf s ⌝ }
 {
     if s < 64 {
@@ -243,7 +243,7 @@ fn scale_of(s: u32) -> u32
     8
 }
 
-fn index_of(s: u32) -> u32
+pub fn index_of(s: u32) -> u32
     ensures { λ r. ⌜ r ≡ indexOf s ⌝ }
 {
     if s / 8 % 8 == 4 {
@@ -252,7 +252,7 @@ fn index_of(s: u32) -> u32
     s / 8 % 8
 }
 
-fn displacement_bytes(md: u32) -> u32
+pub fn displacement_bytes(md: u32) -> u32
     ensures { λ r. ⌜ r ≡ displacementBytes md ⌝ }
 {
     if md == 1 {

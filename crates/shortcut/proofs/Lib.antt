@@ -1,0 +1,3 @@
+pub mod Small
+pub mod Spots
+pub mod Decoded

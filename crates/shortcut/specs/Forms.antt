@@ -1,0 +1,92 @@
+-- The short form of each encoding that is taken, as a function of the bytes at index i: b is the opcode, m the byte after it.
+-- Assumes nothing.
+use Prim.Native.Nat.{ℕ, _+_, _/_, _%_}
+use mathlib.Core.Bool.{Bool, true, false, cond}
+use mathlib.Core.List.{List}
+use lib.Dec.{leb, eqb}
+use Rattle.alu.specs.Arithmetic.{writes}
+use Rattle.machine.specs.declared.Registers.{Registers}
+use Rattle.machine.specs.Record.{Mem, at, wrap, register, readAt}
+use Rattle.machine.specs.Paging.{dwordAt}
+use Rattle.decode.specs.Decode.{signed}
+use Rattle.operands.specs.Operands.{address, lowered}
+use Rattle.shortcut.specs.declared.Fast.{Fast}
+use Rattle.shortcut.specs.Bytes.{operandAt, operandBytes}
+
+abbrev pub file : List ℕ → Registers
+file e = record { e = e }
+
+abbrev pub isDirect : ℕ → Bool
+isDirect m = leb 192 m
+
+abbrev pub isOdd : ℕ → Bool
+isOdd b = eqb (b % 2) 1
+
+-- where the operand lies: 0 where it is a register
+unfoldable pub spotOf : Mem → List ℕ → ℕ → ℕ → ℕ
+spotOf mem e i m = cond (isDirect m) 0 (address (file e) (operandAt mem (i + 2) m))
+
+-- how many bytes there are up to the immediate
+abbrev pub upTo : Mem → ℕ → ℕ → ℕ
+upTo mem i m = 2 + operandBytes mem (i + 2) m
+
+abbrev pub leftAccess : ℕ → ℕ → ℕ
+leftAccess m op = cond (isDirect m) 0 (cond (writes op) 2 1)
+
+abbrev pub leftRegister : ℕ → ℕ
+leftRegister m = cond (isDirect m) (m % 8) 8
+
+-- on the operand, by y: the instruction has n bytes
+unfoldable pub leftFast : Mem → List ℕ → ℕ → ℕ → ℕ → ℕ → ℕ → ℕ → ℕ → Fast
+leftFast mem e eip i op b m y n =
+    record {
+      taken = true; op = op; wide = isOdd b; access = leftAccess m op; at = spotOf mem e i m;
+      x = readAt (isOdd b) (file e) (m % 8); y = y; to = leftRegister m; next = wrap (eip + n);
+    }
+
+abbrev pub toFast : Mem → List ℕ → ℕ → ℕ → ℕ → ℕ → ℕ → Fast
+toFast mem e eip i op b m = leftFast mem e eip i op b m (readAt (isOdd b) (file e) (m / 8 % 8)) (upTo mem i m)
+
+-- on the register in ModRM
+unfoldable pub fromFast : Mem → List ℕ → ℕ → ℕ → ℕ → ℕ → ℕ → Fast
+fromFast mem e eip i op b m =
+    record {
+      taken = true; op = op; wide = isOdd b; access = cond (isDirect m) 0 3; at = spotOf mem e i m;
+      x = readAt (isOdd b) (file e) (m / 8 % 8); y = readAt (isOdd b) (file e) (m % 8); to = m / 8 % 8; next = wrap (eip + upTo mem i m);
+    }
+
+-- an immediate of four bytes (true) or of one with its sign, at index j
+abbrev pub numberAt : Bool → Mem → ℕ → ℕ
+numberAt long mem j = cond long (dwordAt mem j) (signed (at mem j))
+
+abbrev pub numberFast : Mem → List ℕ → ℕ → ℕ → Bool → ℕ → ℕ → Fast
+numberFast mem e eip i long b m =
+    leftFast mem e eip i (m / 8 % 8) b m (numberAt long mem (i + upTo mem i m)) (upTo mem i m + cond long 4 1)
+
+unfoldable pub addressFast : Mem → List ℕ → ℕ → ℕ → ℕ → Fast
+addressFast mem e eip i m =
+    record { taken = true; op = 9; wide = true; access = 0; at = 0; x = 0; y = spotOf mem e i m; to = m / 8 % 8; next = wrap (eip + upTo mem i m) }
+
+-- MOV of an immediate into a register
+unfoldable pub loadFast : Mem → ℕ → ℕ → ℕ → Fast
+loadFast mem eip i b =
+    record {
+      taken = true; op = 9; wide = eqb (b / 8 % 2) 1; access = 0; at = 0; x = 0; y = numberAt (eqb (b / 8 % 2) 1) mem (i + 1); to = b % 8;
+      next = wrap (eip + (1 + cond (eqb (b / 8 % 2) 1) 4 1));
+    }
+
+-- INC (10) and DEC (11) of a register
+unfoldable pub countFast : List ℕ → ℕ → ℕ → ℕ → Fast
+countFast e eip op b =
+    record { taken = true; op = op; wide = true; access = 0; at = 0; x = register (file e) (b % 8); y = 0; to = b % 8; next = wrap (eip + 1) }
+
+unfoldable pub jumpFast : ℕ → Fast
+jumpFast eip = record { taken = true; op = 9; wide = true; access = 0; at = 0; x = 0; y = 0; to = 8; next = eip }
+
+-- y is pushed, and the program goes on at eip
+unfoldable pub pushFast : List ℕ → ℕ → ℕ → Fast
+pushFast e y eip = record { taken = true; op = 9; wide = true; access = 4; at = lowered (file e); x = 0; y = y; to = 8; next = eip }
+
+-- a pop into register n (5), or a return (6)
+unfoldable pub popFast : List ℕ → ℕ → ℕ → ℕ → Fast
+popFast e access n eip = record { taken = true; op = 9; wide = true; access = access; at = register (file e) 4; x = 0; y = 0; to = n; next = eip }

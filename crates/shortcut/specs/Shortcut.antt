@@ -1,0 +1,95 @@
+-- The common encodings in a short form: what is asked of memory, and what comes of it.
+-- Assumes nothing.
+use Prim.Native.Nat.{ℕ, _+_, _<_}
+use mathlib.Core.Path.{_≡_}
+use mathlib.Core.Bool.{Bool, true, cond, _&&_, _||_}
+use mathlib.Core.List.{List}
+use lib.Dec.{ltb, eqb}
+use Rattle.alu.specs.declared.Status.{Status}
+use Rattle.alu.specs.declared.Out.{Out}
+use Rattle.alu.specs.Arithmetic.{operate, operateOne, writes}
+use Rattle.machine.specs.declared.Registers.{Registers}
+use Rattle.machine.specs.declared.Core.{Core}
+use Rattle.machine.specs.declared.Reply.the-variants.{Done}
+use Rattle.machine.specs.declared.Want.{Want}
+use Rattle.machine.specs.declared.Want.the-variants.{Nothing, Read, Write}
+use Rattle.machine.specs.Record.{Mem, wrap, withRegister, writeAt}
+use Rattle.machine.specs.Paging.{View}
+use Rattle.machine.specs.Act.{ok}
+use Rattle.encoding.specs.declared.Instruction.{Instruction}
+use Rattle.decode.specs.Decode.{decode}
+use Rattle.decode.specs.Read.{logAt}
+use Rattle.operands.specs.declared.Effect.{Effect}
+use Rattle.operands.specs.Operands.{esp, withStatus}
+use Rattle.execute.specs.Execute.{permitted, first, second, compute}
+use Rattle.shortcut.specs.declared.Fast.{Fast}
+use Rattle.shortcut.specs.Bytes.{Shows}
+
+-- ---- the one access: 0 none, 1 a read and 2 a read-and-write of the left operand, 3 a read of the right one, 4 a push, 5 a pop, 6 a return
+
+abbrev pub asks : ℕ → Fast → Bool
+asks n p = eqb (p .access) n
+
+-- the memory operand's
+unfoldable pub wantFirst : Fast → Want
+wantFirst p = cond (asks 0 p || asks 4 p) Nothing (cond (asks 2 p) (Write (p .wide) (p .at)) (Read (p .wide) (p .at)))
+
+-- what is pushed
+unfoldable pub wantSecond : Fast → Want
+wantSecond p = cond (asks 4 p) (Write true (p .at)) Nothing
+
+abbrev pub stores : Fast → Bool
+stores p = asks 2 p || asks 4 p
+
+-- ---- what comes of it, where a is the value found
+
+abbrev pub leftOf : Fast → ℕ → ℕ
+leftOf p a = cond (asks 1 p || asks 2 p) a (p .x)
+
+abbrev pub rightOf : Fast → ℕ → ℕ
+rightOf p a = cond (asks 3 p || asks 5 p) a (p .y)
+
+-- by number as the operations of two operands have it; 10 is INC, 11 DEC
+unfoldable pub outOf : ℕ → Bool → ℕ → ℕ → Status → Out
+outOf op wide x y s = cond (eqb op 10) (operateOne 0 wide x s) (cond (eqb op 11) (operateOne 1 wide x s) (operate op wide x y s))
+
+unfoldable pub resultOf : Fast → ℕ → Status → Out
+resultOf p a s = outOf (p .op) (p .wide) (leftOf p a) (rightOf p a) s
+
+-- ESP after a push, and after a pop or a return
+unfoldable pub stacked : Fast → Registers → Registers
+stacked p r = cond (asks 4 p) (withRegister r esp (p .at)) (cond (asks 5 p || asks 6 p) (withRegister r esp (wrap (p .at + 4))) r)
+
+unfoldable pub registersAfter : Fast → Registers → ℕ → Registers
+registersAfter p r x = cond (ltb (p .to) 8 && writes (p .op)) (writeAt (p .wide) (stacked p r) (p .to) x) (stacked p r)
+
+abbrev pub nextOf : Fast → ℕ → ℕ
+nextOf p a = cond (asks 6 p) a (p .next)
+
+unfoldable pub coreAfter : Fast → Core → ℕ → Core
+coreAfter p k a =
+    record {
+      regs = registersAfter p (k .regs) (resultOf p a (k .flags .status) .value);
+      eip = nextOf p a;
+      flags = withStatus (k .flags) (resultOf p a (k .flags .status) .status);
+    }
+
+-- ---- it is the instruction that the definition decodes, with the same accesses and the same effect
+
+pub record Fits (v : View) (k : Core) (p : Fast) : Type 0 where
+  pub instr : Instruction
+  pub decodes : decode (k .eip) v (logAt (k .eip) 0) ≡ ok instr (logAt (k .eip) (instr .length))
+  pub free : (iopl ring : ℕ) → permitted instr iopl ring ≡ true
+  pub firstly : first instr (k .regs) ≡ wantFirst p
+  pub secondly : second instr (k .regs) ≡ wantSecond p
+  pub done : (a : ℕ) → compute instr k a .reply ≡ Done
+  pub core : (a : ℕ) → a < 4294967296 → compute instr k a .core ≡ coreAfter p k a
+  pub value : (a : ℕ) → a < 4294967296 → stores p ≡ true → compute instr k a .value ≡ resultOf p a (k .flags .status) .value
+
+-- a core from the parts that the quick way keeps apart
+abbrev pub coreFrom : List ℕ → ℕ → Status → Bool → Bool → Core
+coreFrom e eip s interrupt direction =
+    record { regs = record { e = e }; eip = eip; flags = record { status = s; interrupt = interrupt; direction = direction } }
+
+abbrev pub FastOk : Mem → List ℕ → Status → ℕ → ℕ → Fast → Type 0
+FastOk m e s eip i p = p .taken ≡ true → (interrupt direction : Bool) (v : View) → Shows v m eip i → Fits v (coreFrom e eip s interrupt direction) p

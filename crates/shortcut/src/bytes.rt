@@ -1,0 +1,170 @@
+// Reading registers, and an instruction's bytes where all of them are there.
+ghost use mathlib.Core.Path.{_≡_};
+ghost use mathlib.Core.Bool.{Bool, true, false, cond};
+ghost use Prim.Native.Nat.{ℕ, _+_, _*_, _/_, _%_, _<_, _≤_, _^_};
+ghost use lib.ListN.{length, getD};
+ghost use lib.Dec.{leb, eqb};
+ghost use Rattle.machine.specs.Record.{at, readAt, byteRegister};
+ghost use Rattle.machine.specs.Paging.{dwordAt};
+ghost use Rattle.decode.specs.Decode.{inMemory};
+ghost use Rattle.operands.specs.Operands.{scaled, address};
+ghost use Rattle.shortcut.specs.Bytes.{displacementAt, sibAt, sibBytes, operandAt, operandBytes};
+ghost use Rattle.shortcut.specs.Forms.{file, numberAt, spotOf, upTo};
+
+// Where a memory operand lies, 0 for a register; and how many bytes the instruction has up to its immediate.
+pub struct Spot {
+    pub at: u32,
+    pub upto: u32,
+}
+
+fn wide(x: u8) -> u32
+    ensures { λ r. ⌜ (r ≡ x) × (r < 256) ⌝ }
+{
+    x as u32
+}
+
+pub fn byte(mem: &[u8], i: usize) -> u32
+    requires { ⌜ i < length (now mem) ⌝ }
+    ensures { λ r. ⌜ (r ≡ at (now (mem .entry)) i) × (r < 256) ⌝ }
+{
+    wide(mem[i])
+}
+
+pub fn dword(mem: &[u8], i: usize) -> u32
+    requires { ⌜ i + 3 < length (now mem) ⌝ }
+    ensures { λ r. ⌜ r ≡ dwordAt (now (mem .entry)) i ⌝ }
+{
+    wide(mem[i]) + 256 * wide(mem[i + 1]) + 65536 * wide(mem[i + 2]) + 16777216 * wide(mem[i + 3])
+}
+
+// An immediate of four bytes, or of one with its sign.
+pub fn number(mem: &[u8], j: usize, long: bool) -> u32
+    requires { ⌜ j + 3 < length (now mem) ⌝ }
+    ensures { λ r. ⌜ r ≡ numberAt long (now (mem .entry)) j ⌝ }
+{
+    if long {
+        return dword(mem, j);
+    }
+    decode::extend(byte(mem, j))
+}
+
+// A register; a number above is none, and 0.
+pub fn register(e: &[u32], n: u32) -> u32
+    ensures { λ r. ⌜ r ≡ getD (now (e .entry)) n 0 ⌝ }
+{
+    let i = n as usize;
+    if i < e.len() {
+        return e[i];
+    }
+    0
+}
+
+// A dword register or a byte's.
+pub fn read(e: &[u32], w: bool, n: u32) -> u32
+    ensures { λ r. ⌜ r ≡ readAt w (file (now (e .entry))) n ⌝ }
+{
+    if w {
+        return register(e, n);
+    }
+    let x = register(e, n % 4);
+    if n / 4 % 2 == 1 {
+        return x / 256 % 256;
+    }
+    x % 256
+}
+
+fn times(x: u32, s: u32) -> u64
+    ensures { λ r. ⌜ (r ≡ scaled x s) × (r ≤ 34359738360) ⌝ }
+{
+    let i = x as u64;
+    if s == 1 {
+        return i;
+    }
+    if s == 2 {
+        return 2 * i;
+    }
+    if s == 4 {
+        return 4 * i;
+    }
+    8 * i
+}
+
+fn place(e: &[u32], base: u32, index: u32, scale: u32, x: u32) -> u32
+    ensures { λ r. ⌜ r ≡ address (file (now (e .entry))) (inMemory base index scale x) ⌝ }
+{
+    let b = register(e, base);
+    let i = register(e, index);
+    ((b as u64 + times(i, scale) + x as u64) % 4294967296) as u32
+}
+
+fn displacement(mem: &[u8], j: usize, md: u32) -> u32
+    requires { ⌜ j + 3 < length (now mem) ⌝ }
+    ensures { λ r. ⌜ r ≡ displacementAt (now (mem .entry)) j md ⌝ }
+{
+    if md == 1 {
+        return decode::extend(byte(mem, j));
+    }
+    if md == 2 {
+        return dword(mem, j);
+    }
+    0
+}
+
+fn sib(mem: &[u8], e: &[u32], j: usize, md: u32) -> Spot
+    requires { ⌜ j + 5 < length (now mem) ⌝ }
+    ensures { λ r. ⌜ (r .at ≡ address (file (now (e .entry))) (sibAt (now (mem .entry)) j md)) × (r .upto ≡ 2 + sibBytes (now (mem .entry)) j md) ⌝ }
+{
+    let s = byte(mem, j);
+    if (s % 8 == 5) & (md == 0) {
+        return Spot {
+            at: place(
+                e,
+                8,
+                decode::index_of(s),
+                decode::scale_of(s),
+                dword(mem, j + 1),
+            ),
+            upto: 7,
+        };
+    }
+    Spot {
+        at: place(
+            e,
+            s % 8,
+            decode::index_of(s),
+            decode::scale_of(s),
+            displacement(mem, j + 1, md),
+        ),
+        upto: 3 + decode::displacement_bytes(md),
+    }
+}
+
+fn form(mem: &[u8], e: &[u32], j: usize, b: u32) -> Spot
+    requires { ⌜ (j + 5 < length (now mem)) × (b < 192) ⌝ }
+    ensures { λ r. ⌜ (r .at ≡ address (file (now (e .entry))) (operandAt (now (mem .entry)) j b)) × (r .upto ≡ 2 + operandBytes (now (mem .entry)) j b) ⌝ }
+{
+    if b % 8 == 4 {
+        return sib(mem, e, j, b / 64);
+    }
+    if (b / 64 == 0) & (b % 8 == 5) {
+        return Spot {
+            at: place(e, 8, 8, 1, dword(mem, j)),
+            upto: 6,
+        };
+    }
+    Spot {
+        at: place(e, b % 8, 8, 1, displacement(mem, j, b / 64)),
+        upto: 2 + decode::displacement_bytes(b / 64),
+    }
+}
+
+// The operand of the ModRM byte b, for the instruction at i.
+pub fn operand(mem: &[u8], e: &[u32], i: usize, b: u32) -> Spot
+    requires { ⌜ i + 16 ≤ length (now mem) ⌝ }
+    ensures { λ r. ⌜ (r .at ≡ spotOf (now (mem .entry)) (now (e .entry)) i b) × ((r .upto ≡ upTo (now (mem .entry)) i b) × (r .upto ≤ 7)) ⌝ }
+{
+    if 192 <= b {
+        return Spot { at: 0, upto: 2 };
+    }
+    form(mem, e, i + 2, b)
+}

@@ -1,0 +1,231 @@
+// The common encodings in a short form, read straight from memory: what is asked of memory, and what comes of it. Whatever is not here is not
+// taken, and goes the whole way.
+pub mod bytes;
+pub mod effect;
+
+ghost use mathlib.Core.Path.{_≡_};
+ghost use mathlib.Core.Bool.{Bool, true, false, cond};
+ghost use Prim.Native.Nat.{ℕ, _+_, _*_, _/_, _%_, _<_, _≤_, _^_};
+ghost use lib.ListN.{length};
+ghost use lib.Dec.{eqb};
+ghost use Rattle.machine.specs.Record.{at, wrap, register};
+ghost use Rattle.conditions.specs.Conditions.{holds};
+ghost use Rattle.encoding.specs.Encodings.{Classed, classOf};
+ghost use Rattle.decode.specs.Decode.{signed};
+ghost use Rattle.shortcut.specs.Shortcut.{FastOk};
+ghost use Rattle.shortcut.specs.Forms.{file, toFast, fromFast, numberFast, addressFast, loadFast, countFast, jumpFast, pushFast, popFast, leftAccess, leftRegister, numberAt};
+use alu::Status;
+
+// An instruction: is it taken; the operation (10 INC, 11 DEC, else as for two operands); a dword's or a byte's; the access (0 none, 1 a read
+// and 2 a read-and-write of x, 3 a read of y, 4 a push, 5 a pop, 6 a return) and its address; the operands; the register that takes the
+// result, 8 for none; the next EIP.
+pub struct Fast {
+    pub taken: bool,
+    pub op: u32,
+    pub wide: bool,
+    pub access: u32,
+    pub at: u32,
+    pub x: u32,
+    pub y: u32,
+    pub to: u32,
+    pub next: u32,
+}
+
+// Not taken.
+fn none() -> Fast
+    ensures { λ r. ⌜ r .taken ≡ false ⌝ }
+{
+    Fast {
+        taken: false,
+        op: 0,
+        wide: true,
+        access: 0,
+        at: 0,
+        x: 0,
+        y: 0,
+        to: 8,
+        next: 0,
+    }
+}
+
+fn either(c: bool, a: u32, b: u32) -> u32
+    ensures { λ r. ⌜ r ≡ cond c a b ⌝ }
+{
+    if c { a } else { b }
+}
+
+fn left_access(m: u32, op: u32) -> u32
+    ensures { λ r. ⌜ r ≡ leftAccess m op ⌝ }
+{
+    if 192 <= m {
+        return 0;
+    }
+    if alu::writes(op) { 2 } else { 1 }
+}
+
+fn left_register(m: u32) -> u32
+    ensures { λ r. ⌜ r ≡ leftRegister m ⌝ }
+{
+    if 192 <= m { m % 8 } else { 8 }
+}
+
+// The operand by a register.
+fn to_operand(mem: &[u8], e: &[u32], eip: u32, i: usize, op: u32, b: u32, m: u32) -> Fast
+    requires { ⌜ i + 16 ≤ length (now mem) ⌝ }
+    ensures { λ r. ⌜ r ≡ toFast (now (mem .entry)) (now (e .entry)) eip i op b m ⌝ }
+{
+    let q = bytes::operand(mem, e, i, m);
+    let w = b % 2 == 1;
+    Fast {
+        taken: true,
+        op,
+        wide: w,
+        access: left_access(m, op),
+        at: q.at,
+        x: bytes::read(e, w, m % 8),
+        y: bytes::read(e, w, m / 8 % 8),
+        to: left_register(m),
+        next: std::num::wrapping_add_u32(eip, q.upto),
+    }
+}
+
+// A register by the operand.
+fn from_operand(mem: &[u8], e: &[u32], eip: u32, i: usize, op: u32, b: u32, m: u32) -> Fast
+    requires { ⌜ i + 16 ≤ length (now mem) ⌝ }
+    ensures { λ r. ⌜ r ≡ fromFast (now (mem .entry)) (now (e .entry)) eip i op b m ⌝ }
+{
+    let q = bytes::operand(mem, e, i, m);
+    let w = b % 2 == 1;
+    Fast {
+        taken: true,
+        op,
+        wide: w,
+        access: either(192 <= m, 0, 3),
+        at: q.at,
+        x: bytes::read(e, w, m / 8 % 8),
+        y: bytes::read(e, w, m % 8),
+        to: m / 8 % 8,
+        next: std::num::wrapping_add_u32(eip, q.upto),
+    }
+}
+
+// The operand by an immediate, of four bytes or of one.
+fn by_number(mem: &[u8], e: &[u32], eip: u32, i: usize, long: bool, b: u32, m: u32) -> Fast
+    requires { ⌜ i + 16 ≤ length (now mem) ⌝ }
+    ensures { λ r. ⌜ r ≡ numberFast (now (mem .entry)) (now (e .entry)) eip i long b m ⌝ }
+{
+    let q = bytes::operand(mem, e, i, m);
+    let w = b % 2 == 1;
+    let op = m / 8 % 8;
+    Fast {
+        taken: true,
+        op,
+        wide: w,
+        access: left_access(m, op),
+        at: q.at,
+        x: bytes::read(e, w, m % 8),
+        y: bytes::number(mem, i + q.upto as usize, long),
+        to: left_register(m),
+        next: std::num::wrapping_add_u32(eip, q.upto + either(long, 4, 1)),
+    }
+}
+
+fn address_of(mem: &[u8], e: &[u32], eip: u32, i: usize, m: u32) -> Fast
+    requires { ⌜ i + 16 ≤ length (now mem) ⌝ }
+    ensures { λ r. ⌜ r ≡ addressFast (now (mem .entry)) (now (e .entry)) eip i m ⌝ }
+{
+    let q = bytes::operand(mem, e, i, m);
+    Fast {
+        taken: true,
+        op: 9,
+        wide: true,
+        access: 0,
+        at: 0,
+        x: 0,
+        y: q.at,
+        to: m / 8 % 8,
+        next: std::num::wrapping_add_u32(eip, q.upto),
+    }
+}
+
+fn load(mem: &[u8], eip: u32, i: usize, b: u32) -> Fast
+    requires { ⌜ i + 16 ≤ length (now mem) ⌝ }
+    ensures { λ r. ⌜ r ≡ loadFast (now (mem .entry)) eip i b ⌝ }
+{
+    let w = b / 8 % 2 == 1;
+    Fast {
+        taken: true,
+        op: 9,
+        wide: w,
+        access: 0,
+        at: 0,
+        x: 0,
+        y: bytes::number(mem, i + 1, w),
+        to: b % 8,
+        next: std::num::wrapping_add_u32(eip, 1 + either(w, 4, 1)),
+    }
+}
+
+fn count(e: &[u32], eip: u32, op: u32, b: u32) -> Fast
+    ensures { λ r. ⌜ r ≡ countFast (now (e .entry)) eip op b ⌝ }
+{
+    Fast {
+        taken: true,
+        op,
+        wide: true,
+        access: 0,
+        at: 0,
+        x: bytes::register(e, b % 8),
+        y: 0,
+        to: b % 8,
+        next: std::num::wrapping_add_u32(eip, 1),
+    }
+}
+
+fn jump(eip: u32) -> Fast
+    ensures { λ r. ⌜ r ≡ jumpFast eip ⌝ }
+{
+    Fast {
+        taken: true,
+        op: 9,
+        wide: true,
+        access: 0,
+        at: 0,
+        x: 0,
+        y: 0,
+        to: 8,
+        next: eip,
+    }
+}
+
+fn push(e: &[u32], y: u32, eip: u32) -> Fast
+    ensures { λ r. ⌜ r ≡ pushFast (now (e .entry)) y eip ⌝ }
+{
+    Fast {
+        taken: true,
+        op: 9,
+        wide: true,
+        access: 4,
+        at: std::num::wrapping_add_u32(bytes::register(e, 4), 4294967292),
+        x: 0,
+        y,
+        to: 8,
+        next: eip,
+    }
+}
+
+fn pop(e: &[u32], access: u32, n: u32, eip: u32) -> Fast
+    ensures { λ r. ⌜ r ≡ popFast (now (e .entry)) access n eip ⌝ }
+{
+    Fast {
+        taken: true,
+        op: 9,
+        wide: true,
+        access,
+        at: bytes::register(e, 4),
+        x: 0,
+        y: 0,
+        to: n,
+        next: eip,
+    }
+}
