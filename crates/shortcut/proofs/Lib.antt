@@ -1,3 +1,5 @@
 pub mod Small
 pub mod Spots
 pub mod Decoded
+pub mod Fitting
+pub mod Singles

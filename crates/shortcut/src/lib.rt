@@ -1,7 +1,6 @@
 // The common encodings in a short form, read straight from memory: what is asked of memory, and what comes of it. Whatever is not here is not
 // taken, and goes the whole way.
 pub mod bytes;
-pub mod effect;
 
 ghost use mathlib.Core.Path.{_≡_};
 ghost use mathlib.Core.Bool.{Bool, true, false, cond};

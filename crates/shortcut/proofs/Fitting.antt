@@ -1,0 +1,167 @@
+-- The short forms with a ModRM byte are the instructions that the definition decodes, with the same accesses and the same effect.
+-- Assumes nothing.
+use Prim.Native.Nat.{ℕ, _+_, _*_, _/_, _%_, _<_, _≤_}
+use mathlib.Core.Path.{_≡_, refl, sym, ap, _∙_}
+use mathlib.Core.Bool.{Bool, true, false, cond, _&&_, false≢true}
+use mathlib.Core.List.{List}
+use native.Mathlib.Omega.{arith}
+use borrow.Author.Tests.{lt-ltb}
+use lib.Dec.{ltb, leb, eqb}
+use Rattle.alu.specs.declared.Status.{Status}
+use Rattle.alu.specs.Arithmetic.{operate, operation, writes}
+use Rattle.machine.specs.declared.Core.{Core}
+use Rattle.machine.specs.declared.Want.{Want}
+use Rattle.machine.specs.declared.Want.the-variants.{Nothing}
+use Rattle.machine.specs.Record.{Mem, at, register, writeAt}
+use Rattle.machine.specs.Paging.{View}
+use Rattle.machine.specs.Act.{ok}
+use Rattle.encoding.specs.declared.Instruction.{Instruction}
+use Rattle.encoding.specs.Attributes.{regField}
+use Rattle.decode.specs.Decode.{decode}
+use Rattle.decode.specs.Read.{logAt}
+use Rattle.operands.specs.Operands.{scaled, address, operandWant, operandValue, deposit}
+use Rattle.arithmetic.specs.Arithmetic.{combined, combinedFrom, doCombineFrom}
+use Rattle.moves.specs.Moves.{doAddress}
+use Rattle.execute.specs.Execute.{permitted, writesOperand, readsOperand, first, second, computeArithmetic, computeMove, compute}
+use Rattle.shortcut.specs.Bytes.{Shows, operandAt}
+use Rattle.shortcut.specs.Forms.{file, isDirect, isOdd, spotOf, leftFast, fromFast, addressFast, upTo}
+use Rattle.shortcut.specs.Shortcut.{wantFirst, wantSecond, outOf, resultOf, stacked, registersAfter, coreAfter, Fits, coreFrom}
+use Rattle.shortcut.proofs.Decoded.{operand-direct, operand-register}
+
+pub below-eight : (x : ℕ) → ltb (x % 8) 8 ≡ true
+below-eight x = let h : x % 8 < 8 = omega arith in lt-ltb (x % 8) 8 h
+
+module _ (v : View) (m : Mem) (e : List ℕ) (s : Status) (eip i : ℕ) (int dir : Bool) where
+  abbrev k : Core
+  k = coreFrom e eip s int dir
+
+  abbrev b : ℕ
+  b = at m i
+
+  abbrev md : ℕ
+  md = at m (i + 1)
+
+  -- an instruction of two operands
+  abbrev pub combining : ℕ → ℕ → ℕ → ℕ → Instruction
+  combining f op x n = record { family = f; operation = op; wide = isOdd b; register = regField md; operand = operandAt m (i + 2) md; immediate = x; length = n }
+
+  direct : {d : Bool} → isDirect md ≡ d → operandAt m (i + 2) md .direct ≡ d
+  direct h = operand-direct m (i + 2) md ∙ h
+
+  module _ (op x n : ℕ) where
+    pub first-to : first (combining 1 op x n) (file e) ≡ cond (writes op) (operandWant true (combining 1 op x n) (file e)) (operandWant false (combining 1 op x n) (file e))
+    unfolding first writesOperand readsOperand
+    first-to = by (writes op) refl
+      where
+        by : (w : Bool) → writes op ≡ w → first (combining 1 op x n) (file e) ≡ cond (writes op) (operandWant true (combining 1 op x n) (file e)) (operandWant false (combining 1 op x n) (file e))
+        by true h = rw h
+        by false h = rw h
+
+    pub first-number : first (combining 3 op x n) (file e) ≡ cond (writes op) (operandWant true (combining 3 op x n) (file e)) (operandWant false (combining 3 op x n) (file e))
+    unfolding first writesOperand readsOperand
+    first-number = by (writes op) refl
+      where
+        by : (w : Bool) → writes op ≡ w → first (combining 3 op x n) (file e) ≡ cond (writes op) (operandWant true (combining 3 op x n) (file e)) (operandWant false (combining 3 op x n) (file e))
+        by true h = rw h
+        by false h = rw h
+
+  -- ---- on the operand
+
+  module _ (f op x y n : ℕ) (no-inc : eqb op 10 ≡ false) (no-dec : eqb op 11 ≡ false)
+      (de : decode eip v (logAt eip 0) ≡ ok (combining f op x n) (logAt eip n))
+      (free′ : (iopl ring : ℕ) → permitted (combining f op x n) iopl ring ≡ true)
+      (first′ : first (combining f op x n) (file e) ≡ cond (writes op) (operandWant true (combining f op x n) (file e)) (operandWant false (combining f op x n) (file e)))
+      (second′ : second (combining f op x n) (file e) ≡ Nothing)
+      (comp : (a : ℕ) → compute (combining f op x n) k a ≡ combined (combining f op x n) k (operate op (isOdd b) (operandValue (combining f op x n) (file e) a) y s)) where
+    pub left-fits : Fits v k (leftFast m e eip i op b md y n)
+    unfolding combined deposit operandValue operandWant leftFast spotOf wantFirst wantSecond outOf resultOf stacked registersAfter coreAfter
+    left-fits = by (isDirect md) refl (writes op) refl
+      where
+        by : (d : Bool) → isDirect md ≡ d → (w : Bool) → writes op ≡ w → Fits v k (leftFast m e eip i op b md y n)
+        by true d true w =
+            let r = operand-register m (i + 2) md d in
+            record {
+              instr = combining f op x n; decodes = de; free = free′;
+              firstly = first′ ∙ rw (w, direct d, d); secondly = second′ ∙ rw d;
+              done = λ a. rw (comp a, w);
+              core = λ a _. rw (comp a, w, direct d, d, no-inc, no-dec, r, below-eight md);
+              value = λ a _ _. rw (comp a, w, direct d, d, no-inc, no-dec, r);
+            }
+        by true d false w =
+            let r = operand-register m (i + 2) md d in
+            record {
+              instr = combining f op x n; decodes = de; free = free′;
+              firstly = first′ ∙ rw (w, direct d, d); secondly = second′ ∙ rw d;
+              done = λ a. rw (comp a, w);
+              core = λ a _. rw (comp a, w, direct d, d, no-inc, no-dec, r, below-eight md);
+              value = λ a _ _. rw (comp a, w, direct d, d, no-inc, no-dec, r);
+            }
+        by false d true w =
+            record {
+              instr = combining f op x n; decodes = de; free = free′;
+              firstly = first′ ∙ rw (w, direct d, d); secondly = second′ ∙ rw (d, w);
+              done = λ a. rw (comp a, w);
+              core = λ a _. rw (comp a, w, direct d, d, no-inc, no-dec);
+              value = λ a _ _. rw (comp a, w, direct d, d, no-inc, no-dec);
+            }
+        by false d false w =
+            record {
+              instr = combining f op x n; decodes = de; free = free′;
+              firstly = first′ ∙ rw (w, direct d, d); secondly = second′ ∙ rw (d, w);
+              done = λ a. rw (comp a, w);
+              core = λ a _. rw (comp a, w, direct d, d, no-inc, no-dec);
+              value = λ a _ _. rw (comp a, w, direct d, d, no-inc, no-dec);
+            }
+
+  -- ---- on the register
+
+  module _ (op x n : ℕ) (no-inc : eqb op 10 ≡ false) (no-dec : eqb op 11 ≡ false) (len : n ≡ upTo m i md)
+      (de : decode eip v (logAt eip 0) ≡ ok (combining 2 op x n) (logAt eip n)) where
+    pub from-fits : Fits v k (fromFast m e eip i op b md)
+    unfolding first second writesOperand readsOperand compute computeArithmetic doCombineFrom combinedFrom operandValue operandWant fromFast spotOf wantFirst wantSecond outOf resultOf stacked registersAfter coreAfter
+    from-fits = by (isDirect md) refl (writes op) refl
+      where
+        by : (d : Bool) → isDirect md ≡ d → (w : Bool) → writes op ≡ w → Fits v k (fromFast m e eip i op b md)
+        by true d true w =
+            let r = operand-register m (i + 2) md d in
+            record {
+              instr = combining 2 op x n; decodes = de; free = λ _ _. refl; firstly = rw (direct d, d); secondly = rw d; done = λ a. refl;
+              core = λ a _. rw (w, direct d, d, no-inc, no-dec, r, below-eight (md / 8), len);
+              value = λ a _ z. absurd (false≢true (rw d at z));
+            }
+        by true d false w =
+            let r = operand-register m (i + 2) md d in
+            record {
+              instr = combining 2 op x n; decodes = de; free = λ _ _. refl; firstly = rw (direct d, d); secondly = rw d; done = λ a. refl;
+              core = λ a _. rw (w, direct d, d, no-inc, no-dec, r, below-eight (md / 8), len);
+              value = λ a _ z. absurd (false≢true (rw d at z));
+            }
+        by false d true w =
+            record {
+              instr = combining 2 op x n; decodes = de; free = λ _ _. refl; firstly = rw (direct d, d); secondly = rw d; done = λ a. refl;
+              core = λ a _. rw (w, direct d, d, no-inc, no-dec, below-eight (md / 8), len);
+              value = λ a _ z. absurd (false≢true (rw d at z));
+            }
+        by false d false w =
+            record {
+              instr = combining 2 op x n; decodes = de; free = λ _ _. refl; firstly = rw (direct d, d); secondly = rw d; done = λ a. refl;
+              core = λ a _. rw (w, direct d, d, no-inc, no-dec, below-eight (md / 8), len);
+              value = λ a _ z. absurd (false≢true (rw d at z));
+            }
+
+  -- ---- the operand's address
+
+  module _ (op x n : ℕ) (len : n ≡ upTo m i md) (mem : isDirect md ≡ false) where
+    abbrev loading : Instruction
+    loading = record { family = 11; operation = op; wide = true; register = regField md; operand = operandAt m (i + 2) md; immediate = x; length = n }
+
+    pub address-fits : decode eip v (logAt eip 0) ≡ ok loading (logAt eip n) → Fits v k (addressFast m e eip i md)
+    unfolding first second writesOperand readsOperand compute computeMove doAddress address addressFast spotOf wantFirst wantSecond operate operation outOf resultOf stacked registersAfter coreAfter writeAt
+    address-fits de = record {
+      instr = loading; decodes = de; free = λ _ _. refl; firstly = refl; secondly = refl; done = λ a. refl;
+      core = λ a _. rw (mem, len, below-eight (md / 8), again (register (file e) (operandAt m (i + 2) md .base) + scaled (register (file e) (operandAt m (i + 2) md .index)) (operandAt m (i + 2) md .scale) + operandAt m (i + 2) md .displacement));
+      value = λ a _ z. absurd (false≢true z);
+    }
+      where
+        again : (z : ℕ) → z % 4294967296 % 4294967296 ≡ z % 4294967296
+        again z = omega arith

@@ -1,0 +1,117 @@
+-- The short forms without a ModRM byte: moves of an immediate, INC and DEC, jumps and the stack.
+-- Assumes nothing.
+use Prim.Native.Nat.{ℕ, _+_, _*_, _/_, _%_, _<_, _≤_}
+use mathlib.Core.Path.{_≡_, refl, sym, ap, _∙_}
+use mathlib.Core.Bool.{Bool, true, false, cond, _&&_, false≢true}
+use mathlib.Core.List.{List}
+use native.Mathlib.Omega.{arith}
+use borrow.Author.Tests.{lt-ltb}
+use lib.Dec.{ltb, leb, eqb}
+use Rattle.alu.specs.declared.Status.{Status}
+use Rattle.alu.specs.Arithmetic.{operate, operation, operateOne}
+use Rattle.conditions.specs.Conditions.{holds}
+use Rattle.machine.specs.declared.Core.{Core}
+use Rattle.machine.specs.Record.{Mem, at, wrap, register, readAt, writeAt}
+use Rattle.machine.specs.Paging.{View}
+use Rattle.machine.specs.Act.{ok}
+use Rattle.encoding.specs.declared.Instruction.{Instruction}
+use Rattle.decode.specs.Decode.{decode, inRegister}
+use Rattle.decode.specs.Read.{logAt}
+use Rattle.operands.specs.Operands.{operandWant, operandValue, deposit}
+use Rattle.arithmetic.specs.Arithmetic.{combined, doCombineImmediate, doUnary}
+use Rattle.stack.specs.Stack.{doPush, doPop, doCall, doReturn}
+use Rattle.flow.specs.Flow.{doJumpOn, doJump}
+use Rattle.execute.specs.Execute.{writesOperand, readsOperand, first, second, computeArithmetic, computeMove, computeFlow, compute}
+use Rattle.shortcut.specs.Forms.{file, numberAt, loadFast, countFast, jumpFast, pushFast, popFast}
+use Rattle.shortcut.specs.Shortcut.{wantFirst, wantSecond, outOf, resultOf, stacked, registersAfter, coreAfter, Fits, coreFrom}
+use Rattle.shortcut.proofs.Fitting.{below-eight}
+
+same : (x : ℕ) → x < 4294967296 → x % 4294967296 ≡ x
+same x h = omega arith
+
+module _ (v : View) (m : Mem) (e : List ℕ) (s : Status) (eip i : ℕ) (int dir : Bool) where
+  abbrev k : Core
+  k = coreFrom e eip s int dir
+
+  abbrev b : ℕ
+  b = at m i
+
+  -- an instruction that names register r in its opcode, or none
+  abbrev pub naming : ℕ → ℕ → Bool → ℕ → ℕ → ℕ → Instruction
+  naming f op w r x n = record { family = f; operation = op; wide = w; register = 0; operand = inRegister r; immediate = x; length = n }
+
+  pub load-fits : decode eip v (logAt eip 0) ≡ ok (naming 3 9 (eqb (b / 8 % 2) 1) (b % 8) (numberAt (eqb (b / 8 % 2) 1) m (i + 1)) (1 + cond (eqb (b / 8 % 2) 1) 4 1)) (logAt eip (1 + cond (eqb (b / 8 % 2) 1) 4 1))
+      → Fits v k (loadFast m eip i b)
+  unfolding first second writesOperand readsOperand compute computeArithmetic doCombineImmediate combined deposit operandValue operandWant operate operation loadFast wantFirst wantSecond outOf resultOf stacked registersAfter coreAfter
+  load-fits de = record {
+    instr = naming 3 9 (eqb (b / 8 % 2) 1) (b % 8) (numberAt (eqb (b / 8 % 2) 1) m (i + 1)) (1 + cond (eqb (b / 8 % 2) 1) 4 1);
+    decodes = de; free = λ _ _. refl; firstly = refl; secondly = refl; done = λ a. refl; core = λ a _. rw (below-eight b); value = λ a _ z. absurd (false≢true z);
+  }
+
+  module _ (x : ℕ) where
+    pub inc-fits : decode eip v (logAt eip 0) ≡ ok (naming 4 0 true (b % 8) x 1) (logAt eip 1) → Fits v k (countFast e eip 10 b)
+    unfolding first second writesOperand readsOperand compute computeArithmetic doUnary deposit operandValue operandWant readAt countFast wantFirst wantSecond outOf resultOf stacked registersAfter coreAfter
+    inc-fits de = record {
+      instr = naming 4 0 true (b % 8) x 1; decodes = de; free = λ _ _. refl; firstly = refl; secondly = refl; done = λ a. refl;
+      core = λ a _. rw (below-eight b); value = λ a _ z. absurd (false≢true z);
+    }
+
+    pub dec-fits : decode eip v (logAt eip 0) ≡ ok (naming 4 1 true (b % 8) x 1) (logAt eip 1) → Fits v k (countFast e eip 11 b)
+    unfolding first second writesOperand readsOperand compute computeArithmetic doUnary deposit operandValue operandWant readAt countFast wantFirst wantSecond outOf resultOf stacked registersAfter coreAfter
+    dec-fits de = record {
+      instr = naming 4 1 true (b % 8) x 1; decodes = de; free = λ _ _. refl; firstly = refl; secondly = refl; done = λ a. refl;
+      core = λ a _. rw (below-eight b); value = λ a _ z. absurd (false≢true z);
+    }
+
+  -- ---- jumps
+
+  module _ (op r x n : ℕ) where
+    pub jump-fits : decode eip v (logAt eip 0) ≡ ok (naming 18 op true r x n) (logAt eip n) → Fits v k (jumpFast (wrap (wrap (eip + n) + x)))
+    unfolding first second writesOperand readsOperand compute computeFlow doJump operate operation jumpFast wantFirst wantSecond outOf resultOf stacked registersAfter coreAfter
+    jump-fits de = record {
+      instr = naming 18 op true r x n; decodes = de; free = λ _ _. refl; firstly = refl; secondly = refl; done = λ a. refl; core = λ a _. refl; value = λ a _ z. absurd (false≢true z);
+    }
+
+    pub jump-on : holds op s ≡ true → decode eip v (logAt eip 0) ≡ ok (naming 17 op true r x n) (logAt eip n) → Fits v k (jumpFast (wrap (wrap (eip + n) + x)))
+    unfolding first second writesOperand readsOperand compute computeFlow doJumpOn operate operation jumpFast wantFirst wantSecond outOf resultOf stacked registersAfter coreAfter
+    jump-on h de = record {
+      instr = naming 17 op true r x n; decodes = de; free = λ _ _. refl; firstly = refl; secondly = refl; done = λ a. refl; core = λ a _. rw h; value = λ a _ z. absurd (false≢true z);
+    }
+
+    pub jump-off : holds op s ≡ false → decode eip v (logAt eip 0) ≡ ok (naming 17 op true r x n) (logAt eip n) → Fits v k (jumpFast (wrap (eip + n)))
+    unfolding first second writesOperand readsOperand compute computeFlow doJumpOn operate operation jumpFast wantFirst wantSecond outOf resultOf stacked registersAfter coreAfter
+    jump-off h de = record {
+      instr = naming 17 op true r x n; decodes = de; free = λ _ _. refl; firstly = refl; secondly = refl; done = λ a. refl; core = λ a _. rw h; value = λ a _ z. absurd (false≢true z);
+    }
+
+    -- ---- the stack
+
+    pub push-fits : register (file e) r < 4294967296 → decode eip v (logAt eip 0) ≡ ok (naming 13 op true r x n) (logAt eip n)
+        → Fits v k (pushFast e (register (file e) r) (wrap (eip + n)))
+    unfolding first second writesOperand readsOperand compute computeMove doPush operandValue operandWant readAt operate operation pushFast wantFirst wantSecond outOf resultOf stacked registersAfter coreAfter
+    push-fits h de = record {
+      instr = naming 13 op true r x n; decodes = de; free = λ _ _. refl; firstly = refl; secondly = refl; done = λ a. refl; core = λ a _. refl;
+      value = λ a _ z. sym (same (register (file e) r) h);
+    }
+
+    pub call-fits : decode eip v (logAt eip 0) ≡ ok (naming 20 op true r x n) (logAt eip n) → Fits v k (pushFast e (wrap (eip + n)) (wrap (wrap (eip + n) + x)))
+    unfolding first second writesOperand readsOperand compute computeFlow doCall operate operation pushFast wantFirst wantSecond outOf resultOf stacked registersAfter coreAfter
+    call-fits de = record {
+      instr = naming 20 op true r x n; decodes = de; free = λ _ _. refl; firstly = refl; secondly = refl; done = λ a. refl; core = λ a _. refl;
+      value = λ a _ z. sym (same (wrap (eip + n)) (omega arith));
+    }
+
+  module _ (op x n : ℕ) where
+    pub pop-fits : decode eip v (logAt eip 0) ≡ ok (naming 15 op true (b % 8) x n) (logAt eip n) → Fits v k (popFast e 5 (b % 8) (wrap (eip + n)))
+    unfolding first second writesOperand readsOperand compute computeMove doPop deposit operandWant writeAt operate operation popFast wantFirst wantSecond outOf resultOf stacked registersAfter coreAfter
+    pop-fits de = record {
+      instr = naming 15 op true (b % 8) x n; decodes = de; free = λ _ _. refl; firstly = refl; secondly = refl; done = λ a. refl;
+      core = λ a h. rw (below-eight b, same a h); value = λ a _ z. absurd (false≢true z);
+    }
+
+    pub return-fits : decode eip v (logAt eip 0) ≡ ok (naming 22 op true x 0 n) (logAt eip n) → Fits v k (popFast e 6 8 (wrap (eip + n)))
+    unfolding first second writesOperand readsOperand compute computeFlow doReturn operate operation popFast wantFirst wantSecond outOf resultOf stacked registersAfter coreAfter
+    return-fits de = record {
+      instr = naming 22 op true x 0 n; decodes = de; free = λ _ _. refl; firstly = refl; secondly = refl; done = λ a. refl;
+      core = λ a h. let z : register (file e) 4 + 4 + 0 ≡ register (file e) 4 + 4 = omega arith in rw z; value = λ a _ z. absurd (false≢true z);
+    }
