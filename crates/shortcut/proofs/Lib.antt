@@ -3,3 +3,6 @@ pub mod Spots
 pub mod Decoded
 pub mod Fitting
 pub mod Singles
+pub mod Taken
+pub mod Conditions
+pub mod Effects

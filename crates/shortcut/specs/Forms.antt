@@ -22,6 +22,10 @@ isDirect m = leb 192 m
 abbrev pub isOdd : ℕ → Bool
 isOdd b = eqb (b % 2) 1
 
+-- the operation of a class with ModRM: ADD to CMP by the opcode (4, 5), TEST (8), MOV (11, 12)
+abbrev pub operationOf : ℕ → ℕ → ℕ
+operationOf c b = cond (leb c 5) (b / 8 % 8) (cond (eqb c 8) 8 9)
+
 -- where the operand lies: 0 where it is a register
 unfoldable pub spotOf : Mem → List ℕ → ℕ → ℕ → ℕ
 spotOf mem e i m = cond (isDirect m) 0 (address (file e) (operandAt mem (i + 2) m))

@@ -1,6 +1,8 @@
 // The common encodings in a short form, read straight from memory: what is asked of memory, and what comes of it. Whatever is not here is not
 // taken, and goes the whole way.
 pub mod bytes;
+pub mod condition;
+pub mod effect;
 
 ghost use mathlib.Core.Path.{_≡_};
 ghost use mathlib.Core.Bool.{Bool, true, false, cond};
@@ -11,8 +13,9 @@ ghost use Rattle.machine.specs.Record.{at, wrap, register};
 ghost use Rattle.conditions.specs.Conditions.{holds};
 ghost use Rattle.encoding.specs.Encodings.{Classed, classOf};
 ghost use Rattle.decode.specs.Decode.{signed};
+ghost use Rattle.alu.specs.declared.Status.{Status};
 ghost use Rattle.shortcut.specs.Shortcut.{FastOk};
-ghost use Rattle.shortcut.specs.Forms.{file, toFast, fromFast, numberFast, addressFast, loadFast, countFast, jumpFast, pushFast, popFast, leftAccess, leftRegister, numberAt};
+ghost use Rattle.shortcut.specs.Forms.{file, toFast, fromFast, numberFast, addressFast, loadFast, countFast, jumpFast, pushFast, popFast, leftAccess, leftRegister, operationOf};
 use alu::Status;
 
 // An instruction: is it taken; the operation (10 INC, 11 DEC, else as for two operands); a dword's or a byte's; the access (0 none, 1 a read
@@ -227,4 +230,107 @@ fn pop(e: &[u32], access: u32, n: u32, eip: u32) -> Fast
         to: n,
         next: eip,
     }
+}
+
+// Jcc by a byte.
+fn jump_if(s: Status, eip: u32, b: u32, m: u32) -> Fast
+    requires { ⌜ m < 256 ⌝ }
+    ensures { λ r. ⌜ r ≡ jumpFast (cond (holds (b % 16) s) (wrap (wrap (eip + 2) + signed m)) (wrap (eip + 2))) ⌝ }
+{
+    let next = std::num::wrapping_add_u32(eip, 2);
+    if condition::holds(b % 16, s) {
+        return jump(std::num::wrapping_add_u32(next, decode::extend(m)));
+    }
+    jump(next)
+}
+
+// The operation of a class: ADD to CMP by the opcode, TEST, MOV.
+fn operation(c: u32, b: u32) -> u32
+    ensures { λ r. ⌜ r ≡ operationOf c b ⌝ }
+{
+    if c <= 5 {
+        return b / 8 % 8;
+    }
+    if c == 8 {
+        return 8;
+    }
+    9
+}
+
+// Opcodes that a jump, a call or an immediate makes longer or shorter, one by one.
+fn by_opcode(mem: &[u8], e: &[u32], eip: u32, i: usize, b: u32, m: u32) -> Fast
+    requires { ⌜ (i + 16 ≤ length (now mem)) × ((b ≡ at (now mem) i) × ((m ≡ at (now mem) (i + 1)) × (m < 256))) ⌝ }
+    ensures { λ r. ⌜ ((s : Status) → FastOk (now (mem .entry)) (now (e .entry)) s eip i r) ⌝ }
+{
+    match b {
+        128 => by_number(mem, e, eip, i, false, b, m),
+        129 => by_number(mem, e, eip, i, true, b, m),
+        131 => by_number(mem, e, eip, i, false, b, m),
+        232 => {
+            let next = std::num::wrapping_add_u32(eip, 5);
+            push(
+                e,
+                next,
+                std::num::wrapping_add_u32(next, bytes::dword(mem, i + 1)),
+            )
+        }
+        233 => {
+            let next = std::num::wrapping_add_u32(eip, 5);
+            jump(std::num::wrapping_add_u32(next, bytes::dword(mem, i + 1)))
+        }
+        235 => {
+            let next = std::num::wrapping_add_u32(eip, 2);
+            jump(std::num::wrapping_add_u32(next, decode::extend(m)))
+        }
+        _ => none(),
+    }
+}
+
+// Opcodes without ModRM, by their class.
+fn plain(mem: &[u8], e: &[u32], s: Status, eip: u32, i: usize, c: u32, b: u32, m: u32) -> Fast
+    requires { ⌜ (i + 16 ≤ length (now mem)) × ((b ≡ at (now mem) i) × ((m ≡ at (now mem) (i + 1)) × ((m < 256) × (c ≡ classOf b)))) ⌝ }
+    ensures { λ r. ⌜ FastOk (now (mem .entry)) (now (e .entry)) s eip i r ⌝ }
+{
+    match c {
+        15 => load(mem, eip, i, b),
+        22 => count(e, eip, 10, b),
+        23 => count(e, eip, 11, b),
+        26 => push(
+            e,
+            bytes::register(e, b % 8),
+            std::num::wrapping_add_u32(eip, 1),
+        ),
+        28 => pop(e, 5, b % 8, std::num::wrapping_add_u32(eip, 1)),
+        36 => {
+            if b / 16 != 7 {
+                return none();
+            }
+            jump_if(s, eip, b, m)
+        }
+        41 => pop(e, 6, 8, std::num::wrapping_add_u32(eip, 1)),
+        _ => by_opcode(mem, e, eip, i, b, m),
+    }
+}
+
+// The instruction at index i of memory, where sixteen bytes are there.
+pub fn quick(mem: &[u8], t: &[u8; 512], e: &[u32], s: Status, eip: u32, i: usize) -> Fast
+    requires { ⌜ (i + 16 ≤ length (now mem)) × (Classed (now t)) ⌝ }
+    ensures { λ r. ⌜ FastOk (now (mem .entry)) (now (e .entry)) s eip i r ⌝ }
+{
+    let b = bytes::byte(mem, i);
+    let m = bytes::byte(mem, i + 1);
+    let c = encoding::class_in(t, b);
+    if (c == 4) | (c == 8) | (c == 11) {
+        return to_operand(mem, e, eip, i, operation(c, b), b, m);
+    }
+    if (c == 5) | (c == 12) {
+        return from_operand(mem, e, eip, i, operation(c, b), b, m);
+    }
+    if c == 19 {
+        if 192 <= m {
+            return none();
+        }
+        return address_of(mem, e, eip, i, m);
+    }
+    plain(mem, e, s, eip, i, c, b, m)
 }

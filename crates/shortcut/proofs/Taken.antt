@@ -1,0 +1,243 @@
+-- Each encoding that is taken: from the bytes that the code read to the instruction in its short form.
+-- Assumes nothing.
+use Prim.Native.Nat.{ℕ, _+_, _*_, _/_, _%_, _<_, _≤_}
+use mathlib.Core.Path.{_≡_, refl, sym, ap, _∙_}
+use mathlib.Core.Bool.{Bool, true, false, cond, _&&_, _||_, false≢true}
+use mathlib.Core.List.{List}
+use native.Mathlib.Omega.{arith}
+use borrow.Author.Tests.{lt-ltb, lt-leb, ne-eqb, eqb-true}
+use lib.Dec.{ltb, leb, eqb}
+use Rattle.alu.specs.declared.Status.{Status}
+use Rattle.conditions.specs.Conditions.{holds}
+use Rattle.machine.specs.Record.{Mem, at, wrap, register, readAt}
+use Rattle.machine.specs.Paging.{View, dwordAt}
+use Rattle.encoding.specs.Encodings.{classOf}
+use Rattle.encoding.specs.Attributes.{familyOf, operationOf as operationIn, arithmeticFamily, moveFamily, flowFamily, longOpcode}
+use Rattle.machine.specs.Act.{ok}
+use Rattle.decode.specs.Decode.{signed, decode}
+use Rattle.decode.specs.Read.{logAt}
+use Rattle.execute.specs.Execute.{second, computeArithmetic, compute}
+use Rattle.arithmetic.specs.Arithmetic.{doCombineTo, doCombineImmediate}
+use Rattle.shortcut.specs.declared.Fast.{Fast}
+use Rattle.shortcut.specs.Bytes.{Shows}
+use Rattle.shortcut.specs.Forms.{file, isOdd, isDirect, upTo, numberAt, operationOf, toFast, fromFast, numberFast, addressFast, loadFast, countFast, jumpFast, pushFast, popFast}
+use Rattle.shortcut.specs.Shortcut.{Fits, coreFrom, FastOk}
+use Rattle.shortcut.proofs.Small.{operand-few}
+use Rattle.shortcut.proofs.Decoded.{Plain, number-none, number-one, number-four, number-long, with-modrm, without-modrm}
+use Rattle.shortcut.proofs.Fitting.{left-fits, first-to, first-number, from-fits, address-fits}
+use Rattle.shortcut.proofs.Singles.{naming, load-fits, inc-fits, dec-fits, jump-fits, jump-on, jump-off, push-fits, call-fits, pop-fits, return-fits}
+
+pub not-taken : (m : Mem) (e : List ℕ) (s : Status) (eip i : ℕ) (p : Fast) → p .taken ≡ false → FastOk m e s eip i p
+not-taken m e s eip i p h t = absurd (false≢true (sym h ∙ t))
+
+-- a number below ten is none of INC and DEC
+not-ten : (x : ℕ) → eqb (x % 8) 10 ≡ false
+not-ten x = let h : x % 8 ≡ 10 → ⊥ = λ h. omega arith in ne-eqb (x % 8) 10 h
+
+not-eleven : (x : ℕ) → eqb (x % 8) 11 ≡ false
+not-eleven x = let h : x % 8 ≡ 11 → ⊥ = λ h. omega arith in ne-eqb (x % 8) 11 h
+
+module _ (m : Mem) (e : List ℕ) (s : Status) (eip i : ℕ) where
+  abbrev b : ℕ
+  b = at m i
+
+  abbrev md : ℕ
+  md = at m (i + 1)
+
+  -- ---- with ModRM
+
+  to-4 : classOf b ≡ 4 → FastOk m e s eip i (toFast m e eip i (b / 8 % 8) b md)
+  unfolding familyOf operationIn second compute computeArithmetic doCombineTo
+  to-4 h _ int dir v sh =
+      left-fits v m e s eip i int dir 1 (b / 8 % 8) 0 _ (upTo m i md) (not-ten (b / 8)) (not-eleven (b / 8))
+      (with-modrm v m eip i sh 4 0 _ (record { isClass = h; noOverride = refl; noEscape = refl; built = refl; defined = refl }) refl refl refl (number-none v m eip i sh _))
+      (λ _ _. refl) (first-to v m e s eip i int dir _ _ _) refl (λ a. refl)
+
+  to-8 : classOf b ≡ 8 → FastOk m e s eip i (toFast m e eip i 8 b md)
+  unfolding familyOf operationIn second compute computeArithmetic doCombineTo
+  to-8 h _ int dir v sh =
+      left-fits v m e s eip i int dir 1 8 0 _ (upTo m i md) refl refl
+      (with-modrm v m eip i sh 8 0 _ (record { isClass = h; noOverride = refl; noEscape = refl; built = refl; defined = refl }) refl refl refl (number-none v m eip i sh _))
+      (λ _ _. refl) (first-to v m e s eip i int dir _ _ _) refl (λ a. refl)
+
+  to-11 : classOf b ≡ 11 → FastOk m e s eip i (toFast m e eip i 9 b md)
+  unfolding familyOf operationIn second compute computeArithmetic doCombineTo
+  to-11 h _ int dir v sh =
+      left-fits v m e s eip i int dir 1 9 0 _ (upTo m i md) refl refl
+      (with-modrm v m eip i sh 11 0 _ (record { isClass = h; noOverride = refl; noEscape = refl; built = refl; defined = refl }) refl refl refl (number-none v m eip i sh _))
+      (λ _ _. refl) (first-to v m e s eip i int dir _ _ _) refl (λ a. refl)
+
+  from-5 : classOf b ≡ 5 → FastOk m e s eip i (fromFast m e eip i (b / 8 % 8) b md)
+  unfolding familyOf operationIn
+  from-5 h _ int dir v sh =
+      from-fits v m e s eip i int dir (b / 8 % 8) 0 _ (not-ten (b / 8)) (not-eleven (b / 8)) refl
+      (with-modrm v m eip i sh 5 0 _ (record { isClass = h; noOverride = refl; noEscape = refl; built = refl; defined = refl }) refl refl refl (number-none v m eip i sh _))
+
+  from-12 : classOf b ≡ 12 → FastOk m e s eip i (fromFast m e eip i 9 b md)
+  unfolding familyOf operationIn
+  from-12 h _ int dir v sh =
+      from-fits v m e s eip i int dir 9 0 _ refl refl refl
+      (with-modrm v m eip i sh 12 0 _ (record { isClass = h; noOverride = refl; noEscape = refl; built = refl; defined = refl }) refl refl refl (number-none v m eip i sh _))
+
+  address-19 : classOf b ≡ 19 → isDirect md ≡ false → FastOk m e s eip i (addressFast m e eip i md)
+  unfolding familyOf operationIn arithmeticFamily moveFamily
+  address-19 h mem _ int dir v sh =
+      address-fits v m e s eip i int dir (b % 16) 0 _ refl mem
+      (with-modrm v m eip i sh 19 0 _ (record { isClass = h; noOverride = refl; noEscape = refl; built = refl; defined = refl }) refl (rw mem) refl (number-none v m eip i sh _))
+
+  number-7 : (long : Bool) → classOf b ≡ 7 → longOpcode b ≡ long → FastOk m e s eip i (numberFast m e eip i long b md)
+  unfolding familyOf operationIn second compute computeArithmetic doCombineImmediate
+  number-7 long h l _ int dir v sh =
+      let few = operand-few m (i + 2) md in
+      left-fits v m e s eip i int dir 3 (md / 8 % 8) (numberAt long m (i + upTo m i md)) _ (upTo m i md + cond long 4 1) (not-ten (md / 8)) (not-eleven (md / 8))
+      (with-modrm v m eip i sh 7 _ _ (record { isClass = h; noOverride = refl; noEscape = refl; built = refl; defined = refl }) refl refl refl (rw l (number-long v m eip i sh long (upTo m i md) (omega (arith, few)))))
+      (λ _ _. refl) (first-number v m e s eip i int dir _ _ _) refl (λ a. refl)
+
+  -- ---- without
+
+  load-15 : classOf b ≡ 15 → FastOk m e s eip i (loadFast m eip i b)
+  unfolding familyOf operationIn
+  load-15 h _ int dir v sh =
+      load-fits v m e s eip i int dir
+      (without-modrm v m eip i sh 15 _ _ (record { isClass = h; noOverride = refl; noEscape = refl; built = refl; defined = refl }) refl refl (number-long v m eip i sh (eqb (b / 8 % 2) 1) 1 (omega arith)))
+
+  inc-22 : classOf b ≡ 22 → FastOk m e s eip i (countFast e eip 10 b)
+  unfolding familyOf operationIn
+  inc-22 h _ int dir v sh =
+      inc-fits v m e s eip i int dir 0
+      (without-modrm v m eip i sh 22 0 1 (record { isClass = h; noOverride = refl; noEscape = refl; built = refl; defined = refl }) refl refl (number-none v m eip i sh 1))
+
+  dec-23 : classOf b ≡ 23 → FastOk m e s eip i (countFast e eip 11 b)
+  unfolding familyOf operationIn
+  dec-23 h _ int dir v sh =
+      dec-fits v m e s eip i int dir 0
+      (without-modrm v m eip i sh 23 0 1 (record { isClass = h; noOverride = refl; noEscape = refl; built = refl; defined = refl }) refl refl (number-none v m eip i sh 1))
+
+  push-26 : classOf b ≡ 26 → register (file e) (b % 8) < 4294967296 → FastOk m e s eip i (pushFast e (register (file e) (b % 8)) (wrap (eip + 1)))
+  unfolding familyOf operationIn arithmeticFamily moveFamily
+  push-26 h y _ int dir v sh =
+      push-fits v m e s eip i int dir (b % 16) (b % 8) 0 1 y
+      (without-modrm v m eip i sh 26 0 1 (record { isClass = h; noOverride = refl; noEscape = refl; built = refl; defined = refl }) refl refl (number-none v m eip i sh 1))
+
+  pop-28 : classOf b ≡ 28 → FastOk m e s eip i (popFast e 5 (b % 8) (wrap (eip + 1)))
+  unfolding familyOf operationIn arithmeticFamily moveFamily
+  pop-28 h _ int dir v sh =
+      pop-fits v m e s eip i int dir (b % 16) 0 1
+      (without-modrm v m eip i sh 28 0 1 (record { isClass = h; noOverride = refl; noEscape = refl; built = refl; defined = refl }) refl refl (number-none v m eip i sh 1))
+
+  return-41 : classOf b ≡ 41 → FastOk m e s eip i (popFast e 6 8 (wrap (eip + 1)))
+  unfolding familyOf operationIn arithmeticFamily moveFamily flowFamily
+  return-41 h _ int dir v sh =
+      return-fits v m e s eip i int dir (b % 16) 0 1
+      (without-modrm v m eip i sh 41 0 1 (record { isClass = h; noOverride = refl; noEscape = refl; built = refl; defined = refl }) refl refl (number-none v m eip i sh 1))
+
+  -- ---- jumps and calls
+
+  jump-36 : classOf b ≡ 36 → longOpcode b ≡ false → FastOk m e s eip i (jumpFast (cond (holds (b % 16) s) (wrap (wrap (eip + 2) + signed md)) (wrap (eip + 2))))
+  unfolding familyOf operationIn arithmeticFamily moveFamily flowFamily
+  jump-36 h l _ int dir v sh =
+      let de = without-modrm v m eip i sh 36 (signed md) 2 (record { isClass = h; noOverride = refl; noEscape = refl; built = refl; defined = refl }) refl refl (rw l (number-one v m eip i sh 1 (omega arith))) in
+      by (holds (b % 16) s) refl de
+    where
+      by : (c : Bool) → holds (b % 16) s ≡ c → decode eip v (logAt eip 0) ≡ ok (naming v m e s eip i int dir 17 (b % 16) true 0 (signed md) 2) (logAt eip 2)
+          → Fits v (coreFrom e eip s int dir) (jumpFast (cond (holds (b % 16) s) (wrap (wrap (eip + 2) + signed md)) (wrap (eip + 2))))
+      by true y de = rw y (jump-on v m e s eip i int dir (b % 16) 0 (signed md) 2 y de)
+      by false y de = rw y (jump-off v m e s eip i int dir (b % 16) 0 (signed md) 2 y de)
+
+  jump-235 : b ≡ 235 → FastOk m e s eip i (jumpFast (wrap (wrap (eip + 2) + signed md)))
+  unfolding familyOf operationIn arithmeticFamily moveFamily flowFamily classOf
+  jump-235 h _ int dir v sh =
+      jump-fits v m e s eip i int dir (b % 16) 0 (signed md) 2
+      (without-modrm v m eip i sh 39 (signed md) 2 (record { isClass = ap classOf h; noOverride = refl; noEscape = refl; built = refl; defined = refl }) refl refl (rw h (number-one v m eip i sh 1 (omega arith))))
+
+  jump-233 : b ≡ 233 → FastOk m e s eip i (jumpFast (wrap (wrap (eip + 5) + dwordAt m (i + 1))))
+  unfolding familyOf operationIn arithmeticFamily moveFamily flowFamily classOf
+  jump-233 h _ int dir v sh =
+      jump-fits v m e s eip i int dir (b % 16) 0 (dwordAt m (i + 1)) 5
+      (without-modrm v m eip i sh 39 (dwordAt m (i + 1)) 5 (record { isClass = ap classOf h; noOverride = refl; noEscape = refl; built = refl; defined = refl }) refl refl (rw h (number-four v m eip i sh 1 (omega arith))))
+
+  call-232 : b ≡ 232 → FastOk m e s eip i (pushFast e (wrap (eip + 5)) (wrap (wrap (eip + 5) + dwordAt m (i + 1))))
+  unfolding familyOf operationIn arithmeticFamily moveFamily flowFamily classOf
+  call-232 h _ int dir v sh =
+      call-fits v m e s eip i int dir (b % 16) 0 (dwordAt m (i + 1)) 5
+      (without-modrm v m eip i sh 40 (dwordAt m (i + 1)) 5 (record { isClass = ap classOf h; noOverride = refl; noEscape = refl; built = refl; defined = refl }) refl refl (rw h (number-four v m eip i sh 1 (omega arith))))
+
+  -- ---- from what the code read
+
+  module _ (b′ md′ c′ : ℕ) (eb : b′ ≡ at m i) (em : md′ ≡ at m (i + 1)) (ec : c′ ≡ classOf b′) (p : Fast) where
+    class : (n : ℕ) → c′ ≡ n → classOf (at m i) ≡ n
+    class n h = ap classOf (sym eb) ∙ sym ec ∙ h
+
+    pub taken-to : (eqb c′ 4 || eqb c′ 8 || eqb c′ 11) ≡ true → (op : ℕ) → op ≡ operationOf c′ b′ → p ≡ toFast m e eip i op b′ md′ → FastOk m e s eip i p
+    taken-to h op eo ep = by (eqb c′ 4) refl (eqb c′ 8) refl (eqb c′ 11) refl
+      where
+        at-class : (n : ℕ) → c′ ≡ n → FastOk m e s eip i (toFast m e eip i (operationOf n (at m i)) (at m i) (at m (i + 1))) → FastOk m e s eip i p
+        at-class n hn k = rw (ep, eo, hn, eb, em) k
+
+        by : (x : Bool) → eqb c′ 4 ≡ x → (y : Bool) → eqb c′ 8 ≡ y → (z : Bool) → eqb c′ 11 ≡ z → FastOk m e s eip i p
+        by true x y y′ z z′ = at-class 4 (eqb-true _ _ x) (to-4 (class 4 (eqb-true _ _ x)))
+        by false x true y z z′ = at-class 8 (eqb-true _ _ y) (to-8 (class 8 (eqb-true _ _ y)))
+        by false x false y true z = at-class 11 (eqb-true _ _ z) (to-11 (class 11 (eqb-true _ _ z)))
+        by false x false y false z = absurd (false≢true (rw (x, y, z) at h))
+
+    pub taken-from : (eqb c′ 5 || eqb c′ 12) ≡ true → (op : ℕ) → op ≡ operationOf c′ b′ → p ≡ fromFast m e eip i op b′ md′ → FastOk m e s eip i p
+    taken-from h op eo ep = by (eqb c′ 5) refl (eqb c′ 12) refl
+      where
+        at-class : (n : ℕ) → c′ ≡ n → FastOk m e s eip i (fromFast m e eip i (operationOf n (at m i)) (at m i) (at m (i + 1))) → FastOk m e s eip i p
+        at-class n hn k = rw (ep, eo, hn, eb, em) k
+
+        by : (x : Bool) → eqb c′ 5 ≡ x → (y : Bool) → eqb c′ 12 ≡ y → FastOk m e s eip i p
+        by true x y y′ = at-class 5 (eqb-true _ _ x) (from-5 (class 5 (eqb-true _ _ x)))
+        by false x true y = at-class 12 (eqb-true _ _ y) (from-12 (class 12 (eqb-true _ _ y)))
+        by false x false y = absurd (false≢true (rw (x, y) at h))
+
+    pub taken-address : c′ ≡ 19 → md′ < 192 → p ≡ addressFast m e eip i md′ → FastOk m e s eip i p
+    taken-address h d ep = rw (ep, em) (address-19 (class 19 h) (rw (← em) (lt-leb 192 md′ d)))
+
+    pub taken-load : c′ ≡ 15 → p ≡ loadFast m eip i b′ → FastOk m e s eip i p
+    taken-load h ep = rw (ep, eb) (load-15 (class 15 h))
+
+    pub taken-inc : c′ ≡ 22 → p ≡ countFast e eip 10 b′ → FastOk m e s eip i p
+    taken-inc h ep = rw (ep, eb) (inc-22 (class 22 h))
+
+    pub taken-dec : c′ ≡ 23 → p ≡ countFast e eip 11 b′ → FastOk m e s eip i p
+    taken-dec h ep = rw (ep, eb) (dec-23 (class 23 h))
+
+    pub taken-push : (y n : ℕ) → c′ ≡ 26 → y < 4294967296 → y ≡ register (file e) (b′ % 8) → n ≡ wrap (eip + 1) → p ≡ pushFast e y n → FastOk m e s eip i p
+    taken-push y n h small ey en ep = let ey′ : y ≡ register (file e) (at m i % 8) = rw (← eb) ey in rw (ep, en, ey′) (push-26 (class 26 h) (rw ey′ at small))
+
+    pub taken-pop : (n : ℕ) → c′ ≡ 28 → n ≡ wrap (eip + 1) → p ≡ popFast e 5 (b′ % 8) n → FastOk m e s eip i p
+    taken-pop n h en ep = rw (ep, en, eb) (pop-28 (class 28 h))
+
+    pub taken-return : (n : ℕ) → c′ ≡ 41 → n ≡ wrap (eip + 1) → p ≡ popFast e 6 8 n → FastOk m e s eip i p
+    taken-return n h en ep = rw (ep, en) (return-41 (class 41 h))
+
+    -- 70 to 7F have a byte
+    short : b′ / 16 ≡ 7 → longOpcode b′ ≡ false
+    short h =
+        let n1 : b′ ≡ 0x81 → ⊥ = λ z. omega arith in
+        let n2 : b′ ≡ 0x68 → ⊥ = λ z. omega arith in
+        let n3 : b′ ≡ 0x69 → ⊥ = λ z. omega arith in
+        let n4 : b′ ≡ 0xe9 → ⊥ = λ z. omega arith in
+        let n5 : b′ ≡ 0xe8 → ⊥ = λ z. omega arith in
+        let n6 : b′ < 0x180 = omega arith in
+        rw (ne-eqb _ _ n1, ne-eqb _ _ n2, ne-eqb _ _ n3, ne-eqb _ _ n4, ne-eqb _ _ n5, lt-leb _ _ n6)
+
+    pub taken-jump : c′ ≡ 36 → b′ / 16 ≡ 7 → p ≡ jumpFast (cond (holds (b′ % 16) s) (wrap (wrap (eip + 2) + signed md′)) (wrap (eip + 2))) → FastOk m e s eip i p
+    taken-jump h k ep = rw (ep, eb, em) (jump-36 (class 36 h) (rw (← eb) (short k)))
+
+  module _ (b′ md′ : ℕ) (eb : b′ ≡ at m i) (em : md′ ≡ at m (i + 1)) (p : Fast) where
+    opcode : (n : ℕ) → b′ ≡ n → at m i ≡ n
+    opcode n h = sym eb ∙ h
+
+    pub taken-number : (n : ℕ) (long : Bool) → b′ ≡ n → classOf n ≡ 7 → longOpcode n ≡ long → p ≡ numberFast m e eip i long b′ md′ → FastOk m e s eip i p
+    taken-number n long h c l ep = rw (ep, eb, em) (number-7 long (ap classOf (opcode n h) ∙ c) (ap longOpcode (opcode n h) ∙ l))
+
+    pub taken-near : (n x z : ℕ) → b′ ≡ 235 → n ≡ wrap (eip + 2) → x ≡ signed md′ → z ≡ wrap (n + x) → p ≡ jumpFast z → FastOk m e s eip i p
+    taken-near n x z h en ex ez ep = rw (ep, ez, en, ex, em) (jump-235 (opcode 235 h))
+
+    pub taken-far : (n x z : ℕ) → b′ ≡ 233 → n ≡ wrap (eip + 5) → x ≡ dwordAt m (i + 1) → z ≡ wrap (n + x) → p ≡ jumpFast z → FastOk m e s eip i p
+    taken-far n x z h en ex ez ep = rw (ep, ez, en, ex) (jump-233 (opcode 233 h))
+
+    pub taken-call : (n x z : ℕ) → b′ ≡ 232 → n ≡ wrap (eip + 5) → x ≡ dwordAt m (i + 1) → z ≡ wrap (n + x) → p ≡ pushFast e n z → FastOk m e s eip i p
+    taken-call n x z h en ex ez ep = rw (ep, ez, en, ex) (call-232 (opcode 232 h))
