@@ -138,7 +138,7 @@ steps-held plan (suc n) m r c e u =
 
 -- ---- the record stays sound
 
-digit-small : (b : Bool) → digit b ≤ 1
+pub digit-small : (b : Bool) → digit b ≤ 1
 digit-small true = lit≤ tt
 digit-small false = lit≤ tt
 
@@ -211,7 +211,7 @@ unfolding onward
 onward-sound true o go h h′ = h′
 onward-sound false o go h h′ = h
 
-step-sound : (plan : Planner) (m : Mem) (r : Cpu) → sound m r ≡ true → SoundOut (step plan m r)
+pub step-sound : (plan : Planner) (m : Mem) (r : Cpu) → sound m r ≡ true → SoundOut (step plan m r)
 unfolding step
 step-sound plan m r e = checked-sound m r (sound m r) _ e
 

@@ -1,3 +1,5 @@
 pub mod Plans
 pub mod Steps
 pub mod Passed
+pub mod Packed
+pub mod Seeking

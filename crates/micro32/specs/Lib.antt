@@ -1,4 +1,5 @@
 pub mod Step
 pub mod Told
 pub mod Planned
+pub mod Swift
 pub mod Boundary

@@ -1,4 +1,6 @@
 // Micro32: step, run and audit, and the last two for a host in C or Rust. No caller checks anything first.
+mod swift;
+
 ghost use mathlib.Core.Path.{_≡_};
 ghost use mathlib.Core.Bool.{true};
 ghost use Prim.Native.Nat.{_+_, _-_, _*_, _/_, _%_, _<_, _≤_};

@@ -36,7 +36,7 @@ wantFirst p = cond (asks 0 p || asks 4 p) Nothing (cond (asks 2 p) (Write (p .wi
 
 -- what is pushed
 unfoldable pub wantSecond : Fast → Want
-wantSecond p = cond (asks 4 p) (Write true (p .at)) Nothing
+wantSecond p = cond (asks 4 p) (Write (p .wide) (p .at)) Nothing
 
 abbrev pub stores : Fast → Bool
 stores p = asks 2 p || asks 4 p

@@ -1,0 +1,158 @@
+// The quick way through a run: instructions in their short form, on a code page that is kept. Where it cannot go on it changes nothing, and
+// the complete step takes over.
+ghost use mathlib.Core.Path.{_≡_};
+ghost use mathlib.Core.Bool.{true, false, cond};
+ghost use Prim.Native.Nat.{_+_, _-_, _*_, _/_, _%_, _<_, _≤_};
+ghost use lib.ListN.{length, set};
+ghost use lib.Dec.{eqb};
+ghost use Rattle.machine.specs.Record.{at};
+ghost use Rattle.machine.specs.Paging.{dwordAt};
+ghost use Rattle.machine.specs.Commit.{patches};
+ghost use Rattle.encoding.specs.Encodings.{Classed};
+ghost use Rattle.paging.specs.Quiet.{KeptOk};
+ghost use Rattle.access.specs.Located.{placed};
+ghost use Rattle.shortcut.specs.Shortcut.{nextOf};
+ghost use Rattle.micro32.specs.Swift.{saved, spotted, Reaches, SwiftOk, RushOk};
+use alu::Status;
+use machine::Control;
+use paging::Physical;
+use paging::quiet::Kept;
+use paging::quiet::Settled;
+use shortcut::Fast;
+
+// EIP, the status flags, and the code page that is kept.
+pub struct Rest {
+    pub eip: u32,
+    pub status: Status,
+    pub kept: Kept,
+}
+
+// What a quick step answers: is it done, and where the run stands.
+pub struct Swift {
+    pub done: bool,
+    pub rest: Rest,
+}
+
+// The access of an instruction: is it found; the index in memory and the value there.
+pub struct Sought {
+    pub found: bool,
+    pub at: usize,
+    pub value: u32,
+}
+
+// How many quick steps there were, and where the run stands.
+pub struct Rushed {
+    pub count: u32,
+    pub rest: Rest,
+}
+
+fn unsought() -> Sought
+    ensures { λ r. ⌜ r .found ≡ false ⌝ }
+{
+    Sought {
+        found: false,
+        at: 0,
+        value: 0,
+    }
+}
+
+fn load(mem: &[u8], w: bool, p: Physical) -> u32
+    ensures { λ r. ⌜ r ≡ cond w (dwordAt (now (mem .entry)) (p .0)) (at (now (mem .entry)) (p .0)) ⌝ }
+{
+    if w {
+        return paging::dword_at(mem, p);
+    }
+    paging::byte_at(mem, p.index())
+}
+
+fn none_for_push(access: u32, v: u32) -> u32
+    ensures { λ r. ⌜ r ≡ cond (eqb access 4) 0 v ⌝ }
+{
+    if access == 4 { 0 } else { v }
+}
+
+// Finds the access; memory is only read.
+fn seek(mem: &[u8], c: Control, p: Fast) -> Sought
+    requires { ⌜ length (now mem) % 4096 ≡ 0 ⌝ }
+    ensures { λ r. ⌜ (r .found ≡ true → Reaches (now (mem .entry)) c p r) ⌝ }
+{
+    if p.access == 0 {
+        return Sought {
+            found: true,
+            at: 0,
+            value: 0,
+        };
+    }
+    if p.wide & (4092 < p.at % 4096) {
+        return unsought();
+    }
+    let q = paging::quiet::reach(mem, c, (p.access == 2) | (p.access == 4), p.at);
+    let Settled::Ready(i) = q else {
+        return unsought();
+    };
+    Sought {
+        found: true,
+        at: i.index(),
+        value: none_for_push(p.access, load(mem, p.wide, i)),
+    }
+}
+
+fn put(mem: &mut [u8], i: usize, b: u8)
+    ensures { λ r. ⌜ now (mem .exit) ≡ set (now (mem .entry)) i b ⌝ }
+{
+    if i < mem.len() {
+        mem[i] = b;
+    }
+}
+
+fn put_dword(mem: &mut [u8], i: usize, v: u32)
+    requires { ⌜ i < 4294967296 ⌝ }
+    ensures { λ r. ⌜ now (mem .exit) ≡ set (set (set (set (now (mem .entry)) i (v % 256)) (i + 1) (v / 256 % 256)) (i + 2) (v / 65536 % 256)) (i + 3) (v / 16777216 % 256) ⌝ }
+{
+    if i + 3 < mem.len() {
+        mem[i] = (v % 256) as u8;
+        mem[i + 1] = (v / 256 % 256) as u8;
+        mem[i + 2] = (v / 65536 % 256) as u8;
+        mem[i + 3] = (v / 16777216 % 256) as u8;
+        return;
+    }
+    put(mem, i, (v % 256) as u8);
+    put(mem, i + 1, (v / 256 % 256) as u8);
+    put(mem, i + 2, (v / 65536 % 256) as u8);
+    put(mem, i + 3, (v / 16777216 % 256) as u8);
+}
+
+fn store_at(mem: &mut [u8], p: Fast, i: usize, v: u32)
+    requires { ⌜ i < 4294967296 ⌝ }
+    ensures { λ r. ⌜ now (mem .exit) ≡ patches (placed (spotted p i) v) (now (mem .entry)) ⌝ }
+{
+    if p.wide {
+        put_dword(mem, i, v);
+        return;
+    }
+    put(mem, i, (v % 256) as u8);
+}
+
+// Stores the result, and drops the code page where an entry of the maps may have been stored to.
+fn save(mem: &mut [u8], c: Control, h: Kept, p: Fast, i: usize, v: u32) -> Kept
+    requires { ⌜ (KeptOk (now mem) c h) × (i < 4294967296) ⌝ }
+    ensures { λ r. ⌜ (now (mem .exit) ≡ saved p i v (now (mem .entry))) × (KeptOk (now (mem .exit)) c r) ⌝ }
+{
+    if !((p.access == 2) | (p.access == 4)) {
+        return h;
+    }
+    store_at(mem, p, i, v);
+    let first = (i / 4096) as u32;
+    let last = ((i + 3) / 4096) as u32;
+    let dir = c.cr3 / 4096;
+    if (first == h.table) | (last == h.table) | (first == dir) | (last == dir) {
+        return paging::quiet::no_page();
+    }
+    h
+}
+
+fn next(p: Fast, a: u32) -> u32
+    ensures { λ r. ⌜ r ≡ nextOf p a ⌝ }
+{
+    if p.access == 6 { a } else { p.next }
+}
