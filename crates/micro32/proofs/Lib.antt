@@ -3,3 +3,5 @@ pub mod Steps
 pub mod Passed
 pub mod Packed
 pub mod Seeking
+pub mod Swiftly
+pub mod Rushing

@@ -47,7 +47,7 @@ pub struct Rushed {
 }
 
 fn unsought() -> Sought
-    ensures { λ r. ⌜ r .found ≡ false ⌝ }
+    ensures { λ r. ⌜ (r .found ≡ false) × (r .at < 4294967296) ⌝ }
 {
     Sought {
         found: false,
@@ -74,7 +74,7 @@ fn none_for_push(access: u32, v: u32) -> u32
 // Finds the access; memory is only read.
 fn seek(mem: &[u8], c: Control, p: Fast) -> Sought
     requires { ⌜ length (now mem) % 4096 ≡ 0 ⌝ }
-    ensures { λ r. ⌜ (r .found ≡ true → Reaches (now (mem .entry)) c p r) ⌝ }
+    ensures { λ r. ⌜ (r .at < 4294967296) × (r .found ≡ true → Reaches (now (mem .entry)) c p r) ⌝ }
 {
     if p.access == 0 {
         return Sought {
@@ -155,4 +155,96 @@ fn next(p: Fast, a: u32) -> u32
     ensures { λ r. ⌜ r ≡ nextOf p a ⌝ }
 {
     if p.access == 6 { a } else { p.next }
+}
+
+// One quick step, on the page that is kept.
+fn hop(mem: &mut [u8], t: &[u8; 512], e: &mut [u32], c: Control, r: Rest) -> Swift
+    requires { ⌜ (length (now mem) % 4096 ≡ 0) × ((Classed (now t)) × ((KeptOk (now mem) c (r .kept)) × ((r .eip / 4096 ≡ r .kept .page) × ((r .eip % 4096 ≤ 4080) × (r .eip < 4294967296))))) ⌝ }
+    ensures { λ w. ⌜ SwiftOk (now (mem .entry)) (now (e .entry)) c r (now (mem .exit)) (now (e .exit)) w ⌝ }
+{
+    let eip = r.eip;
+    let s = r.status;
+    let h = r.kept;
+    let p = shortcut::quick(
+        mem,
+        t,
+        e,
+        s,
+        eip,
+        h.base as usize + (eip % 4096) as usize,
+    );
+    if !p.taken {
+        return Swift {
+            done: false,
+            rest: r,
+        };
+    }
+    let q = seek(mem, c, p);
+    if !q.found {
+        return Swift {
+            done: false,
+            rest: r,
+        };
+    }
+    let o = shortcut::effect::result(p, q.value, s);
+    let f = o.status;
+    shortcut::effect::deposit(e, p, o.value);
+    let kept = save(mem, c, h, p, q.at, o.value);
+    Swift {
+        done: true,
+        rest: Rest {
+            eip: next(p, q.value),
+            status: f,
+            kept,
+        },
+    }
+}
+
+// The page of EIP, if it is not the one that is kept.
+fn turn(mem: &[u8], c: Control, r: Rest) -> Kept
+    requires { ⌜ KeptOk (now mem) c (r .kept) ⌝ }
+    ensures { λ h. ⌜ KeptOk (now (mem .entry)) c h ⌝ }
+{
+    let h = r.kept;
+    if r.eip / 4096 == h.page {
+        return h;
+    }
+    paging::quiet::code_page(mem, c, r.eip)
+}
+
+// One quick step.
+fn leap(mem: &mut [u8], t: &[u8; 512], e: &mut [u32], c: Control, r: Rest) -> Swift
+    requires { ⌜ (length (now mem) % 4096 ≡ 0) × ((Classed (now t)) × (KeptOk (now mem) c (r .kept))) ⌝ }
+    ensures { λ w. ⌜ SwiftOk (now (mem .entry)) (now (e .entry)) c r (now (mem .exit)) (now (e .exit)) w ⌝ }
+{
+    let eip = r.eip;
+    let status = r.status;
+    let kept = turn(mem, c, r);
+    let here = Rest { eip, status, kept };
+    if (eip / 4096 == kept.page) & (eip % 4096 <= 4080) {
+        return hop(mem, t, e, c, here);
+    }
+    Swift {
+        done: false,
+        rest: here,
+    }
+}
+
+// Quick steps, as many as there can be and at most so many.
+pub fn rush(mem: &mut [u8], t: &[u8; 512], e: &mut [u32], c: Control, from: Rest, limit: u32) -> Rushed
+    requires { ⌜ (length (now mem) % 4096 ≡ 0) × ((Classed (now t)) × (KeptOk (now mem) c (from .kept))) ⌝ }
+    ensures { λ w. ⌜ (w .count ≤ limit) × (RushOk (now (mem .entry)) (now (e .entry)) c from (w .count) (now (mem .exit)) (now (e .exit)) (w .rest)) ⌝ }
+{
+    let mut n: u32 = 0;
+    let mut r = from;
+    while n < limit {
+        let w = leap(mem, t, e, c, r);
+        let next = w.rest;
+        r = next;
+        if !w.done {
+            return Rushed { count: n, rest: r };
+        }
+        n += 1;
+    }
+    Rushed { count: n, rest: r }
 }
