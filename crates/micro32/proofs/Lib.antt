@@ -5,3 +5,4 @@ pub mod Packed
 pub mod Seeking
 pub mod Swiftly
 pub mod Rushing
+pub mod Runs

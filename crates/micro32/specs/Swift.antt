@@ -67,3 +67,8 @@ pub record Led (m : Mem) (d : Cpu) (e : List ℕ) (r : Rest) (n : ℕ) (m′ : M
 
 abbrev pub RushOk : Mem → List ℕ → Control → Rest → ℕ → Mem → List ℕ → Rest → Type 0
 RushOk m e c r n m′ e′ r′ = (d : Cpu) → d .control ≡ c → sound m (current d e r) ≡ true → Led m d e r n m′ e′ r′
+
+-- the same, from a record to a record
+pub record DashOk (m : Mem) (c : Cpu) (n : ℕ) (m′ : Mem) (c′ : Cpu) : Type 0 where
+  pub holds : sound m c ≡ true → sound m′ c′ ≡ true
+  pub went : sound m c ≡ true → (b : ℕ) → n ≤ b → steps micro32 b m c ≡ after n (steps micro32 (b - n) m′ c′)

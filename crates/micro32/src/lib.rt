@@ -5,7 +5,7 @@ ghost use mathlib.Core.Path.{_≡_};
 ghost use mathlib.Core.Bool.{true};
 ghost use Prim.Native.Nat.{_+_, _-_, _*_, _/_, _%_, _<_, _≤_};
 ghost use lib.ListN.{length};
-ghost use Rattle.machine.specs.Record.{soundAt};
+ghost use Rattle.machine.specs.Record.{flagsIn};
 ghost use Rattle.machine.specs.Replies.{numbered};
 ghost use Rattle.machine.specs.Audit.{audit};
 ghost use Rattle.machine.specs.Run.{step, run};
@@ -13,13 +13,17 @@ ghost use Rattle.encoding.specs.Encodings.{Classed};
 ghost use Rattle.micro32.specs.Step.{micro32};
 ghost use Rattle.micro32.specs.Told.{telling, told, runTelling, runTold};
 ghost use Rattle.micro32.specs.Boundary.{answerOf, ranAnswered};
+ghost use Rattle.micro32.specs.Swift.{current, DashOk};
 ghost use Rattle.micro32.specs.Planned.{PlanOk, left, unreadyOf, goneOf, stoppedOf};
 use access::Access;
 use access::Located;
 use decode::Decoded;
 use machine::Core;
 use machine::Cpu;
+use machine::Flags;
+use machine::Registers;
 use machine::Reply;
+use swift::Rest;
 
 // What a step answers: the reply, and the record after it.
 pub struct Stepped {
@@ -31,6 +35,12 @@ pub struct Stepped {
 pub struct Ran {
     pub count: u32,
     pub reply: Reply,
+    pub cpu: Cpu,
+}
+
+// How many quick steps there were, and the record after them.
+pub struct Dashed {
+    pub count: u32,
     pub cpu: Cpu,
 }
 
@@ -180,7 +190,61 @@ pub fn step(c: Cpu, mem: &mut [u8]) -> Stepped
     advance(c, mem, &t)
 }
 
-// Steps until the budget is used or a reply isn't Done.
+// Where a run stands at a record: no code page is kept yet.
+fn rest_of(c: Cpu) -> Rest
+    ensures { λ r. ⌜ (r .eip ≡ c .eip) × ((r .status ≡ flagsIn (c .eflags) .status) × (r .kept .page ≡ 4294967295)) ⌝ }
+{
+    let f = machine::unpack(c.eflags);
+    let status = f.status;
+    let kept = paging::quiet::no_page();
+    Rest {
+        eip: c.eip,
+        status,
+        kept,
+    }
+}
+
+// The record again, from the parts that quick steps keep apart.
+fn joined(c: Cpu, e: [u32; 8], r: Rest) -> Cpu
+    ensures { λ d. ⌜ d ≡ current c e r ⌝ }
+{
+    let f = machine::unpack(c.eflags);
+    let status = r.status;
+    let flags = Flags {
+        status,
+        interrupt: f.interrupt,
+        direction: f.direction,
+    };
+    let regs = Registers { e };
+    machine::with_core(
+        c,
+        Core {
+            regs,
+            eip: r.eip,
+            flags,
+        },
+    )
+}
+
+// Quick steps from a record on, at most so many.
+fn dash(c: Cpu, mem: &mut [u8], t: &[u8; 512], limit: u32) -> Dashed
+    requires { ⌜ (length (now mem) % 4096 ≡ 0) × (Classed (now t)) ⌝ }
+    ensures { λ w. ⌜ (w .count ≤ limit) × (DashOk (now (mem .entry)) c (w .count) (now (mem .exit)) (w .cpu)) ⌝ }
+{
+    let k = c.control;
+    let file = c.regs;
+    let mut e = file.e;
+    let from = rest_of(c);
+    let w = swift::rush(mem, t, &mut e, k, from, limit);
+    let r = w.rest;
+    let cpu = joined(c, e, r);
+    Dashed {
+        count: w.count,
+        cpu,
+    }
+}
+
+// Steps until the budget is used or a reply isn't Done: quick ones as long as there are, then a complete one.
 pub fn run(c: Cpu, mem: &mut [u8], budget: u32) -> Ran
     ensures { λ r. ⌜ runTelling (r .count) (r .reply) (r .cpu) (now (mem .exit)) ≡ runTold (run micro32 budget (now (mem .entry)) c) ⌝ }
 {
@@ -195,6 +259,17 @@ pub fn run(c: Cpu, mem: &mut [u8], budget: u32) -> Ran
     let mut n: u32 = 0;
     let mut d = c;
     while n < budget {
+        let w = dash(d, mem, &t, budget - n);
+        let here = w.cpu;
+        d = here;
+        n += w.count;
+        if budget <= n {
+            return Ran {
+                count: n,
+                reply: Reply::Spent,
+                cpu: d,
+            };
+        }
         let s = advance(d, mem, &t);
         let k = s.reply;
         let e = s.cpu;
