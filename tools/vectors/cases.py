@@ -1,15 +1,10 @@
 """Cases for Micro32: which instructions, registers, maps and memory. No results here; see emulator.py and gen.py."""
+from layout import GENERATED, SIZE, dword
 
 SEED = 0x4D6963726F3332
-SIZE = 0x8000          # the lent memory: eight pages
 DIRECTORY, TABLE = 0x1000, 0x2000
 
-FAMILIES = [
-    "ADD", "OR", "ADC", "SBB", "AND", "SUB", "XOR", "CMP", "TEST", "NOT", "NEG", "MUL", "IMUL", "DIV", "IDIV", "INC", "DEC", "CONVERT",
-    "MOV", "MOVZX", "MOVSX", "LEA", "XCHG", "PUSH", "POP", "SHL", "SHR", "SAR", "Jcc", "SETcc", "JMP", "CALL", "RET", "LOOP", "FLAGS",
-    "LAHF", "INT", "HLT", "FAULT6", "UNBUILT",
-]
-ARITHMETIC = FAMILIES[:8]
+ARITHMETIC = GENERATED[:8]
 UNDEFINED = {"OR": 0x10, "AND": 0x10, "XOR": 0x10, "TEST": 0x10, "MUL": 0xD4, "IMUL": 0xD4, "DIV": 0x8D5, "IDIV": 0x8D5}
 EDGES = [0, 1, 2, 0x7F, 0x80, 0xFF, 0x7FFFFFFF, 0x80000000, 0x80000001, 0xFFFFFFFE, 0xFFFFFFFF, 0x0F, 0x10, 0x100, 0xFFFF8000]
 OVERRIDES = [0x26, 0x2E, 0x36, 0x3E, 0x64, 0x65]
@@ -151,10 +146,6 @@ def unbuilt_forms():
 
 class Case:
     """form, code bytes, registers, eip, eflags, ring, paging, wp, ne (bit 4 of CR0), low (CR3's free bits), writes {address: bytes}."""
-
-
-def dword(x):
-    return (x & 0xFFFFFFFF).to_bytes(4, "little")
 
 
 def entry(rnd, page, user_rate):

@@ -4,7 +4,8 @@ from unicorn import Uc, UcError, UC_ARCH_X86, UC_MODE_32, UC_HOOK_INTR, UC_HOOK_
 from unicorn import UC_ERR_INSN_INVALID
 from unicorn import x86_const as x
 
-from cases import SIZE, DIRECTORY
+from cases import DIRECTORY
+from layout import SIZE
 
 OWN = 0x100000  # a page of its own, for the descriptors and the return to ring 3
 REGS = [x.UC_X86_REG_EAX, x.UC_X86_REG_ECX, x.UC_X86_REG_EDX, x.UC_X86_REG_EBX, x.UC_X86_REG_ESP, x.UC_X86_REG_EBP, x.UC_X86_REG_ESI, x.UC_X86_REG_EDI]

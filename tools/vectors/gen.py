@@ -1,5 +1,5 @@
 #!/usr/bin/python3
-"""Writes crates/vectors/data/cases. Fixed seed: the same bytes each time. See docs/VECTORS.md."""
+"""Writes the files of crates/vectors/data, and stdout. Fixed seed: the same bytes each time. See docs/VECTORS.md."""
 import os
 import pickle
 import struct
@@ -12,9 +12,10 @@ sys.path.insert(0, os.path.dirname(__file__))
 import cases
 import directed
 import emulator
-from cases import SIZE, DIRECTORY, FAMILIES
+import layout
+from cases import DIRECTORY
+from layout import DONE, FAULT, TRAP, HALT, NO_MEMORY, NOT_BUILT, SIZE
 
-DONE, FAULT, TRAP, HALT, NO_MEMORY, NOT_BUILT = 0, 1, 2, 3, 5, 6
 classes = Counter()
 
 
@@ -134,38 +135,13 @@ def touches_tables(r):
 
 def encode(c, r, q):
     mode = (c.ring == 3) | c.paged << 1 | c.wp << 2 | c.ne << 3
-    b = struct.pack("<BBHI8IBB", FAMILIES.index(c.form.family), mode, c.eflags, c.eip, *c.regs, c.low, len(c.writes))
-    for a, w in c.writes:
-        b += struct.pack("<HB", a, len(w)) + w
-    b += struct.pack("<BBBI", *q)
-    stores = []
+    record, stores = None, []
     if q[0] == DONE:
-        changed = [i for i in range(8) if r.regs[i] != c.regs[i]]
-        b += bytes([sum(1 << i for i in changed)]) + b"".join(cases.dword(r.regs[i]) for i in changed) + struct.pack("<IH", r.eip, r.eflags)
+        record = {i: r.regs[i] for i in range(8) if r.regs[i] != c.regs[i]}, r.eip, r.eflags
         stores = r.stores
     elif r.stores:
         classes["refused: the emulator left marks or half a store"] += 1
-    b += bytes([len(stores)]) + b"".join(struct.pack("<HB", a, v) for a, v in stores)
-    assert len(b) < 256, len(b)
-    return bytes([len(b)]) + b
-
-
-def table(counts):
-    """What the program is to write: every case agrees."""
-    with open(os.path.join(os.path.dirname(__file__), "../../crates/vectors/stdout"), "w") as f:
-        for k, name in enumerate(FAMILIES + directed.NAMES):
-            f.write(f"{name:8} cases {counts[k]}, agreed {counts[k]}, differing 0\n")
-        f.write(f"in all   cases {sum(counts.values())}, differing 0, bytes changed elsewhere 0\n")
-
-
-def encode_directed(family, c, want):
-    b = struct.pack("<BBHI8IBB", len(FAMILIES) + family, c["mode"], c["eflags"], c["eip"], *c["regs"], c["low"], len(c["writes"]))
-    b += b"".join(struct.pack("<HB", a, len(w)) + w for a, w in c["writes"]) + struct.pack("<BBBI", *want["reply"])
-    if want["reply"][0] == DONE:
-        b += bytes([sum(1 << i for i in want["regs"])]) + b"".join(cases.dword(v) for _, v in sorted(want["regs"].items()))
-        b += struct.pack("<IH", want["eip"], want["eflags"])
-    b += bytes([len(want["stores"])]) + b"".join(struct.pack("<HB", a, v) for a, v in want["stores"])
-    return bytes([len(b)]) + b
+    return layout.case(c.form.family, mode, c.eflags, c.eip, c.regs, c.low, c.writes, q, record, stores)
 
 
 def results(batch):
@@ -211,14 +187,11 @@ def main():
         if q[0] == DONE:
             settle(c, r)
         replies[q[0], q[1] if q[0] == FAULT else 0] += 1
-        out.append((FAMILIES.index(c.form.family), encode(c, r, q)))
-    out += [(len(FAMILIES) + f, encode_directed(f, c, want)) for f, _, c, want in directed.LIST]
+        out.append((layout.FAMILIES.index(c.form.family), encode(c, r, q)))
     out.sort(key=lambda p: p[0])
     data = b"".join(b for _, b in out)
-    path = os.path.join(os.path.dirname(__file__), "../../crates/vectors/data/cases")
-    os.makedirs(os.path.dirname(path), exist_ok=True)
-    open(path, "wb").write(data)
-    table(Counter(f for f, _ in out))
+    layout.write("data/cases", data)
+    directed.write()
     print(len(out), "cases,", len(data), "bytes;", dropped, "left out, since they read or write the tables")
     print(bad, "without a result")
     for k, v in sorted(replies.items()):

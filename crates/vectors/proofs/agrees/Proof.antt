@@ -1,6 +1,6 @@
 -- `vectors::agrees` is safe and ends. Assumes nothing.
-use borrow.Author.Needs.{needs}
 use mathlib.Core.Path.{_∙_}
+use borrow.Author.Needs.{needs}
 use Rattle.vectors.proofs.agrees.Statement.{statement}
 use Rattle.vectors.proofs.agrees.Tie as tie
 
@@ -13,8 +13,8 @@ lay-all-requires-2 c κs = search needs
 record-requires : tie.Need-record-requires
 record-requires c κs = search needs
 
-step-requires : tie.Need-step-requires
-step-requires c κs = search needs
+answered-requires : tie.Need-answered-requires
+answered-requires c κs = search needs
 
 number-requires : tie.Need-number-requires
 number-requires c κs = search needs
@@ -22,20 +22,11 @@ number-requires c κs = search needs
 plus-requires : tie.Need-plus-requires
 plus-requires c κs = search needs
 
-same-done-requires : tie.Need-same-done-requires
-same-done-requires c κs = search needs
-
-plus-requires-2 : tie.Need-plus-requires-2
-plus-requires-2 c κs = search needs
-
 same-record-requires : tie.Need-same-record-requires
 same-record-requires c κs = search needs
 
 patch-requires : tie.Need-patch-requires
 patch-requires c κs = search needs
-
-answer-requires : tie.Need-answer-requires
-answer-requires c κs = search needs
 
 same-reply-requires : tie.Need-same-reply-requires
 same-reply-requires c κs = search needs
@@ -43,8 +34,8 @@ same-reply-requires c κs = search needs
 same-laid-requires : tie.Need-same-laid-requires
 same-laid-requires c κs = search needs
 
-same-stores-requires : tie.Need-same-stores-requires
-same-stores-requires c κs = search needs
+same-left-requires : tie.Need-same-left-requires
+same-left-requires c κs = search needs
 
 clear-requires : tie.Need-clear-requires
 clear-requires c κs = search needs
@@ -53,10 +44,10 @@ clear-requires-2 : tie.Need-clear-requires-2
 clear-requires-2 c κs = search needs
 
 same-length : tie.Need-same-length
-same-length c = ((c .before .before .before .before .before .before .clear .kept .0)) ∙ ((c .before .before .before .before .before .before .before .before .before .before .before .before .before .before .before .before .before .before .before .before .before .before .before .before .before .before .step .kept .1 .0)) ∙ ((c .before .before .before .before .before .before .before .before .before .before .before .before .before .before .before .before .before .before .before .before .before .before .before .before .before .before .before .before .before .before .before .before .before .before .before .lay-all .kept .0))
+same-length c = ((c .before .before .before .before .before .before .clear .kept .0)) ∙ ((c .before .before .before .before .before .before .before .before .before .before .before .before .before .before .before .before .before .before .before .before .before .before .before .before .before .before .before .before .before .answered .kept .1 .1 .0)) ∙ ((c .before .before .before .before .before .before .before .before .before .before .before .before .before .before .before .before .before .before .before .before .before .before .before .before .before .before .before .before .before .before .before .before .before .before .before .before .before .before .lay-all .kept .0))
 
 same-length-2 : tie.Need-same-length-2
-same-length-2 c = ((c .before .before .clear2 .kept .0)) ∙ ((c .before .before .before .before .before .before .before .before .before .before .before .before .before .before .before .before .before .before .before .patch .kept .0)) ∙ ((c .before .before .before .before .before .before .before .before .before .before .before .before .before .before .before .before .before .before .before .before .before .before .before .before .before .before .before .before .before .before .before .lay-all2 .kept .0))
+same-length-2 c = ((c .before .before .clear2 .kept .0)) ∙ ((c .before .before .before .before .before .before .before .before .before .before .before .before .before .before .before .before .before .before .before .before .patch .kept .0)) ∙ ((c .before .before .before .before .before .before .before .before .before .before .before .before .before .before .before .before .before .before .before .before .before .before .before .before .before .before .before .before .before .before .before .before .before .before .lay-all2 .kept .0))
 
 returns : tie.Need-returns
 returns c = search needs
@@ -68,17 +59,14 @@ agrees-spec =
     lay-all-requires
     lay-all-requires-2
     record-requires
-    step-requires
+    answered-requires
     number-requires
     plus-requires
-    same-done-requires
-    plus-requires-2
     same-record-requires
     patch-requires
-    answer-requires
     same-reply-requires
     same-laid-requires
-    same-stores-requires
+    same-left-requires
     clear-requires
     clear-requires-2
     same-length

@@ -1,8 +1,8 @@
--- `vectors::same_registers` is safe and ends. Assumes nothing.
+-- `vectors::results::same_registers` is safe and ends. Assumes nothing.
 use Prim.Native.Nat.{_-_}
 use borrow.Author.Needs.{needs}
-use Rattle.vectors.proofs.same_registers.Statement.{statement}
-use Rattle.vectors.proofs.same_registers.Tie as tie
+use Rattle.vectors.proofs.results.same_registers.Statement.{statement}
+use Rattle.vectors.proofs.results.same_registers.Tie as tie
 
 abbrev Inv-loop : tie.InvT-loop
 Inv-loop b from was is mask₀ p₀ n₀ mask p n = Unit {0}

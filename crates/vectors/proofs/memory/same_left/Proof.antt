@@ -1,38 +1,32 @@
--- `vectors::same_laid` is safe and ends. Assumes nothing.
-use Prim.Native.Nat.{_-_}
+-- `vectors::memory::same_left` is safe and ends. Assumes nothing.
 use borrow.Author.Needs.{needs}
-use Rattle.vectors.proofs.same_laid.Statement.{statement}
-use Rattle.vectors.proofs.same_laid.Tie as tie
+use Prim.Native.Nat.{_-_}
+use Rattle.vectors.proofs.memory.same_left.Statement.{statement}
+use Rattle.vectors.proofs.memory.same_left.Tie as tie
 
 abbrev Inv-loop : tie.InvT-loop
-Inv-loop b mem want n at₀ k₀ same₀ at k same = Unit {0}
+Inv-loop b from mem want n at₀ k₀ same₀ at k same = Unit {0}
 
 abbrev μ-loop : tie.MeasureT-loop
-μ-loop b mem want n at₀ k₀ same₀ at k same = n - k
+μ-loop b from mem want n at₀ k₀ same₀ at k same = n - k
 
 number-requires : tie.Need-number-requires Inv-loop μ-loop
 number-requires c κs = search needs
 
-loop-holds : tie.Need-loop-holds Inv-loop μ-loop
-loop-holds c = search needs
-
 plus-requires : tie.Need-plus-requires Inv-loop μ-loop
 plus-requires c κs = search needs
 
-number-requires-2 : tie.Need-number-requires-2 Inv-loop μ-loop
-number-requires-2 c κs = search needs
+loop-holds : tie.Need-loop-holds Inv-loop μ-loop
+loop-holds c = search needs
 
 word-requires : tie.Need-word-requires Inv-loop μ-loop
 word-requires c κs = search needs
 
-same-bytes-requires : tie.Need-same-bytes-requires Inv-loop μ-loop
-same-bytes-requires c κs = search needs
+same-near-requires : tie.Need-same-near-requires Inv-loop μ-loop
+same-near-requires c κs = search needs
 
 plus-requires-2 : tie.Need-plus-requires-2 Inv-loop μ-loop
 plus-requires-2 c κs = search needs
-
-plus-requires-3 : tie.Need-plus-requires-3 Inv-loop μ-loop
-plus-requires-3 c κs = search needs
 
 add-k : tie.Need-add-k Inv-loop μ-loop
 add-k c = search needs
@@ -46,20 +40,18 @@ loop-again c = search needs
 returns : tie.Need-returns Inv-loop μ-loop
 returns c = search needs
 
-pub same-laid-spec : {M : Type 1} → statement M
-same-laid-spec =
+pub same-left-spec : {M : Type 1} → statement M
+same-left-spec =
     tie.close
     (tie.spec
     Inv-loop
     μ-loop
     number-requires
-    loop-holds
     plus-requires
-    number-requires-2
+    loop-holds
     word-requires
-    same-bytes-requires
+    same-near-requires
     plus-requires-2
-    plus-requires-3
     add-k
     loop-less
     loop-again

@@ -1,22 +1,28 @@
--- `vectors::lay` is safe and ends. Assumes nothing.
+-- `vectors::memory::patch` is safe and ends. Assumes nothing.
 use mathlib.Core.Path.{_≡_}
 use lib.ListN.{length}
 use Prim.Native.Nat.{_-_}
 use borrow.Author.Needs.{needs}
-use Rattle.vectors.proofs.lay.Statement.{statement}
-use Rattle.vectors.proofs.lay.Tie as tie
+use Rattle.vectors.proofs.memory.patch.Statement.{statement}
+use Rattle.vectors.proofs.memory.patch.Tie as tie
 
 abbrev Inv-loop : tie.InvT-loop
-Inv-loop mem₀ b from to n keep k₀ mem k = length mem ≡ length mem₀
+Inv-loop mem₀ b from keep n at₀ k₀ mem at k = length mem ≡ length mem₀
 
 abbrev μ-loop : tie.MeasureT-loop
-μ-loop mem₀ b from to n keep k₀ mem k = n - k
+μ-loop mem₀ b from keep n at₀ k₀ mem at k = n - k
+
+number-requires : tie.Need-number-requires Inv-loop μ-loop
+number-requires c κs = search needs
+
+plus-requires : tie.Need-plus-requires Inv-loop μ-loop
+plus-requires c κs = search needs
 
 loop-holds : tie.Need-loop-holds Inv-loop μ-loop
 loop-holds c = search needs
 
-plus-requires : tie.Need-plus-requires Inv-loop μ-loop
-plus-requires c κs = search needs
+plus-requires-2 : tie.Need-plus-requires-2 Inv-loop μ-loop
+plus-requires-2 c κs = search needs
 
 byte-requires : tie.Need-byte-requires Inv-loop μ-loop
 byte-requires c κs = search needs
@@ -24,11 +30,14 @@ byte-requires c κs = search needs
 kept-requires : tie.Need-kept-requires Inv-loop μ-loop
 kept-requires c κs = search needs
 
-plus-requires-2 : tie.Need-plus-requires-2 Inv-loop μ-loop
-plus-requires-2 c κs = search needs
+word-requires : tie.Need-word-requires Inv-loop μ-loop
+word-requires c κs = search needs
 
 put-requires : tie.Need-put-requires Inv-loop μ-loop
 put-requires c κs = search needs
+
+plus-requires-3 : tie.Need-plus-requires-3 Inv-loop μ-loop
+plus-requires-3 c κs = search needs
 
 add-k : tie.Need-add-k Inv-loop μ-loop
 add-k c = search needs
@@ -45,18 +54,21 @@ same-length c = search needs
 returns : tie.Need-returns Inv-loop μ-loop
 returns c = search needs
 
-pub lay-spec : {M : Type 1} → statement M
-lay-spec =
+pub patch-spec : {M : Type 1} → statement M
+patch-spec =
     tie.close
     (tie.spec
     Inv-loop
     μ-loop
-    loop-holds
+    number-requires
     plus-requires
+    loop-holds
+    plus-requires-2
     byte-requires
     kept-requires
-    plus-requires-2
+    word-requires
     put-requires
+    plus-requires-3
     add-k
     loop-less
     loop-again

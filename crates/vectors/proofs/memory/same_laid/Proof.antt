@@ -1,16 +1,14 @@
--- `vectors::patch` is safe and ends. Assumes nothing.
-use mathlib.Core.Path.{_≡_}
-use lib.ListN.{length}
-use Prim.Native.Nat.{_-_}
+-- `vectors::memory::same_laid` is safe and ends. Assumes nothing.
 use borrow.Author.Needs.{needs}
-use Rattle.vectors.proofs.patch.Statement.{statement}
-use Rattle.vectors.proofs.patch.Tie as tie
+use Prim.Native.Nat.{_-_}
+use Rattle.vectors.proofs.memory.same_laid.Statement.{statement}
+use Rattle.vectors.proofs.memory.same_laid.Tie as tie
 
 abbrev Inv-loop : tie.InvT-loop
-Inv-loop mem₀ b from keep n at₀ k₀ mem at k = length mem ≡ length mem₀
+Inv-loop b mem want n at₀ k₀ same₀ at k same = Unit {0}
 
 abbrev μ-loop : tie.MeasureT-loop
-μ-loop mem₀ b from keep n at₀ k₀ mem at k = n - k
+μ-loop b mem want n at₀ k₀ same₀ at k same = n - k
 
 number-requires : tie.Need-number-requires Inv-loop μ-loop
 number-requires c κs = search needs
@@ -24,20 +22,20 @@ loop-holds c = search needs
 plus-requires-2 : tie.Need-plus-requires-2 Inv-loop μ-loop
 plus-requires-2 c κs = search needs
 
-byte-requires : tie.Need-byte-requires Inv-loop μ-loop
-byte-requires c κs = search needs
-
-kept-requires : tie.Need-kept-requires Inv-loop μ-loop
-kept-requires c κs = search needs
+number-requires-2 : tie.Need-number-requires-2 Inv-loop μ-loop
+number-requires-2 c κs = search needs
 
 word-requires : tie.Need-word-requires Inv-loop μ-loop
 word-requires c κs = search needs
 
-put-requires : tie.Need-put-requires Inv-loop μ-loop
-put-requires c κs = search needs
+same-near-requires : tie.Need-same-near-requires Inv-loop μ-loop
+same-near-requires c κs = search needs
 
 plus-requires-3 : tie.Need-plus-requires-3 Inv-loop μ-loop
 plus-requires-3 c κs = search needs
+
+plus-requires-4 : tie.Need-plus-requires-4 Inv-loop μ-loop
+plus-requires-4 c κs = search needs
 
 add-k : tie.Need-add-k Inv-loop μ-loop
 add-k c = search needs
@@ -48,14 +46,11 @@ loop-less c = search needs
 loop-again : tie.Need-loop-again Inv-loop μ-loop
 loop-again c = search needs
 
-same-length : tie.Need-same-length Inv-loop μ-loop
-same-length c = search needs
-
 returns : tie.Need-returns Inv-loop μ-loop
 returns c = search needs
 
-pub patch-spec : {M : Type 1} → statement M
-patch-spec =
+pub same-laid-spec : {M : Type 1} → statement M
+same-laid-spec =
     tie.close
     (tie.spec
     Inv-loop
@@ -64,13 +59,12 @@ patch-spec =
     plus-requires
     loop-holds
     plus-requires-2
-    byte-requires
-    kept-requires
+    number-requires-2
     word-requires
-    put-requires
+    same-near-requires
     plus-requires-3
+    plus-requires-4
     add-k
     loop-less
     loop-again
-    same-length
     returns)

@@ -1,8 +1,8 @@
--- `vectors::same_all` is safe and ends. Assumes nothing.
+-- `vectors::results::same_all` is safe and ends. Assumes nothing.
 use Prim.Native.Nat.{_-_}
 use borrow.Author.Needs.{needs}
-use Rattle.vectors.proofs.same_all.Statement.{statement}
-use Rattle.vectors.proofs.same_all.Tie as tie
+use Rattle.vectors.proofs.results.same_all.Statement.{statement}
+use Rattle.vectors.proofs.results.same_all.Tie as tie
 
 abbrev Inv-loop : tie.InvT-loop
 Inv-loop was is same₀ n₀ same n = Unit {0}

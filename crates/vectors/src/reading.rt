@@ -1,0 +1,37 @@
+// Numbers out of a case's bytes, the low byte first.
+ghost use Prim.Native.Nat.{_<_};
+
+pub fn plus(a: u32, b: u32) -> u32 {
+    std::num::wrapping_add_u32(a, b)
+}
+
+pub fn wide(x: u8) -> u32
+    ensures { λ r. ⌜ r < 256 ⌝ }
+{
+    x as u32
+}
+
+// A byte of a case; past its end, 0.
+pub fn byte(b: &[u8], at: u32) -> u8 {
+    let i = at as usize;
+    if i < b.len() {
+        return b[i];
+    }
+    0
+}
+
+pub fn number(b: &[u8], at: u32) -> u32
+    ensures { λ r. ⌜ r < 256 ⌝ }
+{
+    wide(byte(b, at))
+}
+
+pub fn word(b: &[u8], at: u32) -> u32
+    ensures { λ r. ⌜ r < 65536 ⌝ }
+{
+    number(b, at) + 256 * number(b, plus(at, 1))
+}
+
+pub fn dword(b: &[u8], at: u32) -> u32 {
+    word(b, at) + 65536 * word(b, plus(at, 2))
+}
