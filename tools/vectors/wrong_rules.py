@@ -1,88 +1,150 @@
 #!/usr/bin/python3
-"""Changes one rule of the machine at a time in a copy, runs `rt try vectors` there, and says which wrong rules the cases tell apart."""
+"""Changes one rule of the machine at a time in a copy, runs `rt try vectors` there, and says which wrong rules the cases tell apart.
+
+wrong_rules.py FOLDER [FIRST]: FOLDER is made and takes the copy; FIRST is the number of the rule to begin with. It first checks that each
+rule stands exactly once in the source, and stops where one does not."""
 import os
 import shutil
+import signal
 import subprocess
 import sys
 
 TOP = os.path.join(os.path.dirname(os.path.abspath(__file__)), "../..")
-A, S, P, G, X, E, D, M = "alu", "shifts", "products", "paging", "access", "encoding", "decode", "machine"
-# crate, which occurrence, the rule, the wrong rule
+A, S, P, G, X, E, D, M, R, U = "alu", "shifts", "products", "paging", "access", "encoding", "decode", "machine", "micro32", "audit"
+# crate, the wrong rule in words, the text of the rule, the wrong text
 RULES = [
-    (A, 0, "let s = b as u64 + k as u64;", "let s = (b as u64 + k as u64) % 0x1_0000_0000;"),
-    (A, 0, "af: a % 16 < b % 16 + k,", "af: a % 16 < b % 16,"),
-    (A, 0, "af: 16 <= a % 16 + b % 16 + k,", "af: 16 <= a % 16 + b % 16,"),
-    (A, 0, "of: (n == (0x8000_0000 <= b)) & (n != (0x8000_0000 <= r)),", "of: n != (0x8000_0000 <= r),"),
-    (A, 0, "of: (n != (0x8000_0000 <= b)) & (n != (0x8000_0000 <= r)),", "of: n != (0x8000_0000 <= r),"),
-    (A, 0, "of: (n == (128 <= b)) & (n != (128 <= r)),", "of: n != (128 <= r),"),
-    (A, 0, "of: (n != (128 <= b)) & (n != (128 <= r)),", "of: false,"),
-    (A, 0, "cf: 256 <= t,", "cf: 255 <= t,"),
-    (A, 0, "u32::count_ones(x % 256) % 2 == 0", "u32::count_ones(x) % 2 == 0"),
-    (A, 0, "af: s.af,", "af: false,"),
-    (A, 1, "af: s.af,", "af: false,"),
-    (A, 0, "r.cf = s.cf;", "r.cf = t.cf;"),
-    (A, 0, "2 => add32(a, b, s.cf),", "2 => add32(a, b, false),"),
-    (A, 0, "3 => sub8(a, b, s.cf),", "3 => sub8(a, b, false),"),
-    (A, 0, "!((op == 7) | (op == 8))", "!(op == 7)"),
-    (A, 0, "value: 255 - a as u32, status: s", "value: a as u32, status: s"),
-    (S, 0, "let n = count % 32;", "let n = if count < 32 { count } else { 31 };"),
-    (S, 0, "let of = either(n == 1, one, s.of);", "let of = one;"),
-    (S, 0, "let of = either(n == 1, one, s.of);", "let of = s.of;"),
-    (S, 0, "cf: last,", "cf: s.cf,"),
-    (S, 0, "let last = 128 <= p;", "let last = 128 <= v;"),
-    (S, 0, "after(n, s, r, 128 <= r, p % 2 == 1, 128 <= v)", "after(n, s, r, 128 <= r, p % 2 == 1, false)"),
-    (S, 0, "let r = p / 2 + 128;", "let r = p / 2;"),
-    (P, 0, "if negative { m <= top } else { m < top }", "m < top"),
-    (P, 0, "r.of = b;", "r.of = s.of;"),
-    (P, 0, "let rest = number(0x8000_0000, below, m % e);", "let rest = number(0x8000_0000, negative, m % e);"),
-    (P, 0, "let rest = number(128, below, m % e);", "let rest = number(128, false, m % e);"),
-    (P, 0, "if whole <= q {", "if whole < q {"),
-    (G, 0, "(!user | us) & (!(w & (user | wp)) | rw)", "(!user | us) & (!(w & user) | rw)"),
-    (G, 0, "(!user | us) & (!(w & (user | wp)) | rw)", "!(w & (user | wp)) | rw"),
-    (G, 0, "(!user | us) & (!(w & (user | wp)) | rw)", "(!user | us) & (!w | rw)"),
-    (G, 0, "let us = (pde / 4 % 2 == 1) & (pte / 4 % 2 == 1);", "let us = pte / 4 % 2 == 1;"),
-    (G, 0, "let rw = (pde / 2 % 2 == 1) & (pte / 2 % 2 == 1);", "let rw = pte / 2 % 2 == 1;"),
-    (G, 0, "if w { present + 6 } else { present + 4 }", "present + 4"),
-    (G, 0, "code(1, w, c.ring)", "code(0, w, c.ring)"),
-    (G, 0, "Reply::Fault(14, code(0, w, c.ring), l.0)", "Reply::Fault(14, code(1, w, c.ring), l.0)"),
-    (X, 0, "b % 32 + 96 + b / 128 * 128", "b % 32 + 32 + b / 64 * 64"),
-    (X, 0, "touch(mem, d, false);", "touch(mem, d, w);"),
-    (X, 0, "mark_page(mem, j, w);", "mark_page(mem, j, false);"),
-    (X, 0, "if l % 4096 <= 4092 {", "if l % 4096 <= 4093 {"),
-    (D, 0, "if 15 <= n {", "if 16 <= n {"),
-    (D, 0, "if s / 8 % 8 == 4 {", "if s / 8 % 8 == 5 {"),
-    (D, 0, "if (b % 8 == 5) & (md == 0) {", "if b % 8 == 5 {"),
-    (D, 0, "if x < 128 { x } else { x + 4294967040 }", "x"),
-    (M, 0, "if n / 4 % 2 == 1 {", "if n / 4 % 2 == 2 {"),
-    (M, 0, "(e / 8 % 2 == 0)", "true"),
-    (E, 0, "((c == LOAD_ADDRESS) & (192 <= m))", "false"),
-    (E, 0, "((c == UNARY_GROUP) & (reg == 1))", "false"),
+    (A, "SBB's borrow is folded into the subtrahend", "let s = b as u64 + k as u64;", "let s = (b as u64 + k as u64) % 0x1_0000_0000;"),
+    (A, "AF of a difference without the borrow", "af: a % 16 < b % 16 + k,", "af: a % 16 < b % 16,"),
+    (A, "AF of a sum without the carry", "af: 16 <= a % 16 + b % 16 + k,", "af: 16 <= a % 16 + b % 16,"),
+    (A, "OF of a sum of dwords: any change of sign", "of: (n == (0x8000_0000 <= b)) & (n != (0x8000_0000 <= r)),", "of: n != (0x8000_0000 <= r),"),
+    (A, "OF of a difference of dwords: any change of sign", "of: (n != (0x8000_0000 <= b)) & (n != (0x8000_0000 <= r)),", "of: n != (0x8000_0000 <= r),"),
+    (A, "OF of a sum of bytes: any change of sign", "of: (n == (128 <= b)) & (n != (128 <= r)),", "of: n != (128 <= r),"),
+    (A, "OF of a difference of bytes is 0", "of: (n != (128 <= b)) & (n != (128 <= r)),", "of: false,"),
+    (A, "carry out of a byte at 255", "cf: 256 <= t,", "cf: 255 <= t,"),
+    (A, "parity of the whole dword", "u32::count_ones(x % 256) % 2 == 0", "u32::count_ones(x) % 2 == 0"),
+    (A, "AF cleared by logic on dwords", "af: s.af,\n        zf: r == 0,\n        sf: 0x8000_0000", "af: false,\n        zf: r == 0,\n        sf: 0x8000_0000"),
+    (A, "AF cleared by logic on bytes", "af: s.af,\n        zf: r == 0,\n        sf: 128", "af: false,\n        zf: r == 0,\n        sf: 128"),
+    (A, "INC and DEC change CF", "r.cf = s.cf;", "r.cf = t.cf;"),
+    (A, "ADC of dwords without the carry", "2 => add32(a, b, s.cf),", "2 => add32(a, b, false),"),
+    (A, "SBB of bytes without the borrow", "3 => sub8(a, b, s.cf),", "3 => sub8(a, b, false),"),
+    (A, "TEST writes its result", "!((op == 7) | (op == 8))", "!(op == 7)"),
+    (A, "NOT of a byte does nothing", "value: 255 - a as u32,", "value: a as u32,"),
+    (S, "a shift count of 32 and more is 31", "let n = count % 32;", "let n = if count < 32 { count } else { 31 };"),
+    (S, "OF changed by every shift", "let of = either(n == 1, one, s.of);", "let of = one;"),
+    (S, "OF kept by a shift of 1", "let of = either(n == 1, one, s.of);", "let of = s.of;"),
+    (S, "CF kept by a shift", "cf: last,", "cf: s.cf,"),
+    (S, "CF of SHL from the first place", "let last = 128 <= p;", "let last = 128 <= v;"),
+    (S, "OF of SHR of a byte is 0", "after(n, s, r, 128 <= r, p % 2 == 1, 128 <= v)", "after(n, s, r, 128 <= r, p % 2 == 1, false)"),
+    (S, "SAR of a byte brings in zeros", "let r = p / 2 + 128;", "let r = p / 2;"),
+    (P, "IDIV refuses the most negative quotient", "if negative { m <= top } else { m < top }", "m < top"),
+    (P, "OF kept by a multiply", "r.of = b;", "r.of = s.of;"),
+    (P, "the remainder has the quotient's sign, dwords", "let rest = number(0x8000_0000, below, m % e);", "let rest = number(0x8000_0000, negative, m % e);"),
+    (P, "the remainder has no sign, bytes", "let rest = number(128, below, m % e);", "let rest = number(128, false, m % e);"),
+    (P, "DIV takes a quotient one too large", "if whole <= q {", "if whole < q {"),
+    (G, "ring 0 ignores WP", "(!user | us) & (!(w & (user | wp)) | rw)", "(!user | us) & (!(w & user) | rw)"),
+    (G, "ring 3 ignores U/S", "(!user | us) & (!(w & (user | wp)) | rw)", "!(w & (user | wp)) | rw"),
+    (G, "ring 0 needs R/W without WP", "(!user | us) & (!(w & (user | wp)) | rw)", "(!user | us) & (!w | rw)"),
+    (G, "U/S of the directory is ignored", "let us = (pde / 4 % 2 == 1) & (pte / 4 % 2 == 1);", "let us = pte / 4 % 2 == 1;"),
+    (G, "R/W of the directory is ignored", "let rw = (pde / 2 % 2 == 1) & (pte / 2 % 2 == 1);", "let rw = pte / 2 % 2 == 1;"),
+    (G, "a page fault's code without the write", "if w { present + 6 } else { present + 4 }", "present + 4"),
+    (G, "a page fault's code without presence", "code(1, w, c.ring)", "code(0, w, c.ring)"),
+    (G, "a page fault's code with presence where it is absent", "Reply::Fault(14, code(0, w, c.ring), l.0)", "Reply::Fault(14, code(1, w, c.ring), l.0)"),
+    (X, "D marked by a read", "b % 32 + 96 + b / 128 * 128", "b % 32 + 32 + b / 64 * 64"),
+    (X, "D marked in the directory", "touch(mem, d, false);", "touch(mem, d, w);"),
+    (X, "D not marked by a write", "mark_page(mem, j, w);", "mark_page(mem, j, false);"),
+    (X, "a dword over a page's end taken as one page's", "if l % 4096 <= 4092 {", "if l % 4096 <= 4093 {"),
+    (D, "sixteen bytes are allowed", "if 15 <= n {", "if 16 <= n {"),
+    (D, "SIB index 5 means none", "if s / 8 % 8 == 4 {", "if s / 8 % 8 == 5 {"),
+    (D, "SIB base 5 never means EBP", "if (b % 8 == 5) & (md == 0) {", "if b % 8 == 5 {"),
+    (D, "an 8-bit displacement without sign", "if x < 128 { x } else { x + 4294967040 }", "x"),
+    (M, "AH to BH write the low byte", "if n / 4 % 2 == 1 {\n        return old", "if n / 4 % 2 == 2 {\n        return old"),
+    (M, "EFLAGS bit 3 is allowed", "(e / 8 % 2 == 0)", "true"),
+    (E, "LEA of a register is built", "((c == LOAD_ADDRESS) & (192 <= m))", "false"),
+    (E, "F6 /1 is built", "((c == UNARY_GROUP) & (reg == 1))", "false"),
+    (G, "the page's frame is its linear address", "let p = Physical(pte / 4096 * 4096 + l.0 % 4096);", "let p = Physical(l.0 % 4194304);"),
+    (G, "the directory is at 1000h whatever CR3 says", "Physical(c.cr3 / 4096 * 4096 + l.0 / 4194304 * 4)", "Physical(4096 + l.0 / 4194304 * 4)"),
+    (G, "the table is at 2000h whatever the directory says", "Physical(pde / 4096 * 4096 + l.0 / 4096 % 1024 * 4)", "Physical(8192 + l.0 / 4096 % 1024 * 4)"),
+    (M, "any memory length is sound", "(n % 4096 == 0) & (4096 <= n)", "(4096 <= n)"),
+    (M, "rings 1 and 2 are sound", "(k.ring == 0) | (k.ring == 3)", "k.ring < 4"),
+    (R, "a run counts the refused step", "return Ran {\n                count: n,\n                reply: k,", "return Ran {\n                count: n + 1,\n                reply: k,"),
+    (R, "Spent before Bad record", "if !machine::sound(mem.len(), c) {\n        return Ran {", "if (0 < budget) & !machine::sound(mem.len(), c) {\n        return Ran {"),
+    (R, "a run stops one step early", "while n < budget {", "while n + 1 < budget {"),
+    (R, "a run that is spent gives back the first record", "reply: Reply::Spent,\n        cpu: d,", "reply: Reply::Spent,\n        cpu: c,"),
+    (R, "a run that is refused gives back the first record", "reply: k,\n                cpu: d,", "reply: k,\n                cpu: c,"),
+    (U, "the audit forgets the directory's frame", "    raise(held, c.cr3 / 4096);", "    raise(held, 4096);"),
+    (U, "the audit forgets the tables' frames", "if e % 2 == 1 {\n        raise(", "if e % 2 == 2 {\n        raise("),
+    (U, "the audit keeps the frames of user tables alone", "if e % 2 == 1 {\n        raise(", "if e % 8 == 7 {\n        raise("),
+    (U, "the audit keeps the frames of absent tables too", "if e % 2 == 1 {\n        raise(", "if e % 2 < 2 {\n        raise("),
+    (U, "Exposed names the highest page of a table", "if opens_at(mem, c, held, d, t, e) {\n            return Found::At(d * 1024 + t);", "if opens_at(mem, c, held, d, 1023 - t, e) {\n            return Found::At(d * 1024 + 1023 - t);"),
+    (U, "Exposed names the highest table's page", "let f = open_in(mem, c, held, d);", "let f = open_in(mem, c, held, 1023 - d);"),
+    (U, "Table outside names the highest index", "if strays(mem, c, d) {\n            return Found::At(d);", "if strays(mem, c, 1023 - d) {\n            return Found::At(1023 - d);"),
+    (U, "an absent entry can be a table outside", "(e % 2 == 1) & !in_memory", "!in_memory"),
+    (U, "a directory outside is index 0", "Reply::TableOutside(1024)", "Reply::TableOutside(0)"),
+    (U, "a page is exposed without U/S in its table entry", "(x % 8 == 7) & flag", "(x % 4 == 3) & flag"),
+    (U, "a page is exposed without R/W in its table entry", "(x % 8 == 7) & flag", "((x % 8 == 7) | (x % 8 == 5)) & flag"),
+    (U, "a page is exposed without U/S in its directory entry", "if e % 8 != 7 {", "if e % 4 != 3 {"),
+    (U, "a page is exposed without R/W in its directory entry", "if e % 8 != 7 {", "if (e % 8 != 7) & (e % 8 != 5) {"),
+    (U, "the audit says Safe where PG is clear", "    tables(mem, c.control)\n", "    let k = c.control;\n    if k.cr0 < 0x8000_0000 {\n        return Reply::Safe;\n    }\n    tables(mem, k)\n"),
+    (U, "the audit does not check the record", "if !machine::sound(mem.len(), c) {", "if mem.len() < 4096 {"),
 ]
 
 
+def source(top, crate):
+    return os.path.join(top, "crates", crate, "src/lib.rt")
+
+
+def unplaced():
+    """The rules whose text does not stand exactly once."""
+    out = []
+    for n, (crate, name, old, _) in enumerate(RULES):
+        with open(source(TOP, crate)) as f:
+            count = f.read().count(old)
+        if count != 1:
+            out.append(f"{n} {crate}: {name}: its text stands {count} times")
+    return out
+
+
+def copy(work):
+    os.makedirs(work)
+    shutil.copy(os.path.join(TOP, "crates.txt"), work)
+    shutil.copytree(os.path.join(TOP, "crates"), os.path.join(work, "crates"))
+
+
+def verdict(work):
+    """What the optimised run says. The run before it may lack the time, and the one after it takes long, so it is stopped."""
+    p = subprocess.Popen(["rt", "try", "vectors"], cwd=work, stdout=subprocess.PIPE, stderr=subprocess.STDOUT, text=True, start_new_session=True)
+    said = "does not run"
+    for line in p.stdout:
+        if "the native program at -O3" in line:
+            said = "NOT TOLD APART" if line.startswith("ok:") else "told apart" if "did not write what is expected" in line else "does not end"
+            os.killpg(p.pid, signal.SIGTERM)
+            break
+    p.stdout.close()
+    p.wait()
+    return said
+
+
 def main():
+    bad = unplaced()
+    print("\n".join(bad) if bad else f"all {len(RULES)} rules stand exactly once", flush=True)
+    if bad:
+        sys.exit(1)
     work = sys.argv[1]
+    copy(work)
+    print("no rule changed:", verdict(work), flush=True)
     told = 0
-    tried = 0
-    for n, (crate, which, old, new) in enumerate(RULES):
-        if not os.path.isdir(work):
-            os.makedirs(work)
-            shutil.copy(os.path.join(TOP, "crates.txt"), work)
-            shutil.copytree(os.path.join(TOP, "crates"), os.path.join(work, "crates"))
-        path = os.path.join(work, "crates", crate, "src/lib.rt")
-        right = open(path).read()
-        parts = right.split(old)
-        if len(parts) < which + 2:
-            print(n, crate, "has no such rule:", old, flush=True)
-            continue
-        tried += 1
-        open(path, "w").write(old.join(parts[:which + 1]) + new + old.join(parts[which + 1:]))
-        said = subprocess.run(["rt", "try", "vectors"], cwd=work, capture_output=True, text=True).stdout
-        open(path, "w").write(right)
-        apart = "did not write what is expected" in said
-        told += apart
-        print(n, crate, "told apart" if apart else "NOT TOLD APART" if "ok: the native" in said else "does not run", "|", new, flush=True)
-    print(tried, "wrong rules tried,", told, "told apart")
+    first = int(sys.argv[2]) if len(sys.argv) > 2 else 0
+    for n, (crate, name, old, new) in enumerate(RULES[first:], first):
+        with open(source(work, crate)) as f:
+            right = f.read()
+        with open(source(work, crate), "w") as f:
+            f.write(right.replace(old, new))
+        said = verdict(work)
+        with open(source(work, crate), "w") as f:
+            f.write(right)
+        told += said == "told apart"
+        print(n, crate, said + ":", name, flush=True)
+    print(len(RULES) - first, "wrong rules tried,", told, "told apart")
 
 
 main()
