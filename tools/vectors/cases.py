@@ -10,6 +10,15 @@ EDGES = [0, 1, 2, 0x7F, 0x80, 0xFF, 0x7FFFFFFF, 0x80000000, 0x80000001, 0xFFFFFF
 OVERRIDES = [0x26, 0x2E, 0x36, 0x3E, 0x64, 0x65]
 
 
+def undefined(family, code, ecx):
+    """Mask of the flags that the manual calls undefined and that document 01 keeps."""
+    if family not in ("SHL", "SHR", "SAR"):
+        return UNDEFINED.get(family, 0)
+    opcode = next(b for b in code if b not in OVERRIDES)
+    count = (code[-1] if opcode < 0xD0 else 1 if opcode < 0xD2 else ecx) % 32
+    return 0x10 | (0 if count == 1 else 0x800)
+
+
 class Random:
     """xorshift64*, so that no version of Python changes a byte."""
 

@@ -110,17 +110,9 @@ def reply(c, r):
     return FAULT, r.vector, 0, 0
 
 
-def undefined(c):
-    """Mask of the flags that keep their state."""
-    if c.form.shift is None:
-        return cases.UNDEFINED.get(c.form.family, 0)
-    n = {"imm": c.code[-1], "one": 1, "cl": c.regs[1]}[c.form.shift] % 32
-    return 0x10 | (0 if n == 1 else 0x800)
-
-
 def settle(c, r):
     """Where document 01 decides otherwise."""
-    m = undefined(c)
+    m = cases.undefined(c.form.family, c.code, c.regs[1])
     if (r.eflags ^ c.eflags) & m:
         classes["undefined flag kept, changed by the emulator"] += 1
         r.eflags = r.eflags & ~m | c.eflags & m

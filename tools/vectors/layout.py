@@ -51,6 +51,30 @@ def parts(name):
         at += 1 + n
 
 
+class Read:
+    """A case read back: family, mode, eflags, eip, regs, memory, reply, and what it says of the record (regs, eip, eflags) and the stores after."""
+
+    def __init__(self, b):
+        family, self.mode, self.eflags, self.eip, *self.regs, _, pieces = struct.unpack_from("<BBHI8IBB", b)
+        self.family, at, self.memory = FAMILIES[family], 42, {}
+        for _ in range(pieces):
+            a, n = struct.unpack_from("<HB", b, at)
+            self.memory.update(zip(range(a, a + n), b[at + 3:at + 3 + n]))
+            at += 3 + n
+        self.reply = struct.unpack_from("<BBBI", b, at)
+        at += 7
+        self.after = self.regs, self.eip, self.eflags
+        if self.reply[0] == DONE:
+            regs, mask = list(self.regs), b[at]
+            at += 1
+            for i in range(8):
+                if mask >> i & 1:
+                    regs[i], at = struct.unpack_from("<I", b, at)[0], at + 4
+            self.after = regs, *struct.unpack_from("<IH", b, at)
+            at += 6
+        self.stores = dict(struct.unpack_from("<HB", b, at + 1 + 3 * i) for i in range(b[at]))
+
+
 def write(name, b):
     path = os.path.join(CRATE, name)
     os.makedirs(os.path.dirname(path), exist_ok=True)
