@@ -12,7 +12,7 @@ import sys
 import tempfile
 from collections import Counter
 
-import cases
+import forms
 import layout
 from layout import DONE, FAULT, NO_MEMORY
 
@@ -32,7 +32,7 @@ def code_of(c):
 def left_out(c):
     """Why a user program cannot do it, or None."""
     code = code_of(c)
-    overrides = next((i for i, b in enumerate(code) if b not in cases.OVERRIDES), 15)
+    overrides = next((i for i, b in enumerate(code) if b not in forms.OVERRIDES), 15)
     opcode = code[overrides] if overrides < 15 else None
     if c.family in ("INT", "HLT") or opcode in (0xFA, 0xFB):
         return "the system's: INT, HLT, CLI, STI"
@@ -76,7 +76,7 @@ def compared(c, result):
     apart = (eflags ^ want_eflags) & FLAGS
     if c.reply[0] != DONE or not apart:
         return "agrees"
-    return "agrees but for an undefined flag" if not apart & ~cases.undefined(c.family, code_of(c)[:want_eip - c.eip], c.regs[1]) else "differs"
+    return "agrees but for an undefined flag" if not apart & ~forms.undefined(c.family, code_of(c)[:want_eip - c.eip], c.regs[1]) else "differs"
 
 
 def main():

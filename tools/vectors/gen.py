@@ -12,6 +12,7 @@ sys.path.insert(0, os.path.dirname(__file__))
 import cases
 import directed
 import emulator
+import forms
 import layout
 from cases import DIRECTORY
 from layout import DONE, FAULT, TRAP, HALT, NO_MEMORY, NOT_BUILT, SIZE
@@ -73,7 +74,7 @@ def page_fault(c, r):
 
 def fault6(c, r):
     """Settled at the ModRM byte, or at 0B: a fetch can be refused up to there, and nothing after it counts."""
-    length = next(i for i, b in enumerate(c.code) if b not in cases.OVERRIDES) + 2
+    length = next(i for i, b in enumerate(c.code) if b not in forms.OVERRIDES) + 2
     for a in range(c.eip, c.eip + length):
         if a >= SIZE and not c.paged:
             return NO_MEMORY, 0, 0, a
@@ -112,7 +113,7 @@ def reply(c, r):
 
 def settle(c, r):
     """Where document 01 decides otherwise."""
-    m = cases.undefined(c.form.family, c.code, c.regs[1])
+    m = forms.undefined(c.form.family, c.code, c.regs[1])
     if (r.eflags ^ c.eflags) & m:
         classes["undefined flag kept, changed by the emulator"] += 1
         r.eflags = r.eflags & ~m | c.eflags & m

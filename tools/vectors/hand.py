@@ -18,7 +18,7 @@ def flat(code, eip=0x3000, ring=0, **more):
 
 # Linear 400000h to 407FFFh by the table at 2000h; 403000h is physical 3000h, 405000h is physical 6000h, 406000h absent, 407000h past memory.
 MAP = [(0x1004, d(0x2007)), (0x200C, d(0x3005)), (0x2010, d(0x5001)), (0x2014, d(0x6007)), (0x2018, d(0x6)), (0x201C, d(0x9000 | 7)), (0x2008, d(0x9001))]
-# The directory and the table through themselves.
+# 405000h is the table itself.
 SELF = [(0x1004, d(0x2007)), (0x200C, d(0x3005)), (0x2014, d(0x2007))]
 CODE = [(0x1004, 0x27), (0x200C, 0x25)]
 
