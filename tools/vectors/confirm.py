@@ -39,7 +39,7 @@ def left_out(c):
     if c.family == "UNBUILT":
         return "not built: the CPU has it"
     if c.mode & 2 and c.reply[0] != DONE:
-        return "refused by the maps"
+        return "refused under paging"
     if c.reply[:2] not in SIGNALS:
         return "another reply"
     if 0x2E in code[:overrides]:
