@@ -7,7 +7,7 @@ mod report;
 mod results;
 
 use asking::Ask;
-use report::Row;
+use report::Tally;
 
 // Reads n bytes to b's start.
 fn fill(fd: i32, b: &mut [u8], n: usize) -> bool {
@@ -34,17 +34,10 @@ fn agrees(b: &[u8], a: Ask, mem: &mut [u8], want: &mut [u8]) -> bool {
     memory::lay_all(want, b, true);
     let c = asking::record(b, a);
     let r = asking::answered(a, c, mem);
-    let q = r.reply;
-    let is = r.cpu;
-    let says = (reading::number(b, at) == 0) | (a.call == asking::RUN);
-    let p = results::same_record(b, reading::plus(at, 7), says, c, is);
+    let p = results::same_answer(b, at, a, c, r);
     let left = p.at;
     memory::patch(want, b, left, true);
-    let same = p.same
-        & (r.count == a.count)
-        & results::same_reply(b, at, q)
-        & memory::same_laid(b, mem, want)
-        & memory::same_left(b, left, mem, want);
+    let same = p.same & memory::same_memory(b, left, mem, want);
     memory::clear(mem, b, left);
     memory::clear(want, b, left);
     same
@@ -73,59 +66,42 @@ fn clean(asked: bool, mem: &mut [u8]) -> bool {
 
 // Compares a case. After a directed one, and after every 64th of the others, all memory must be clear again; a byte that is not counts
 // against that case.
-fn judged(
-    directed: bool,
-    turns: u32,
-    n: usize,
-    x: &[u8],
-    b: &[u8],
-    mem: &mut [u8],
-    want: &mut [u8],
-) -> bool {
+fn judged(directed: bool, turns: u32, x: &[u8], b: &[u8], mem: &mut [u8], want: &mut [u8]) -> bool {
     let a = if directed {
         asking::directed(x)
     } else {
         asking::generated(b)
     };
-    let agreed = agrees(b, a, mem, want);
-    let same = clean(directed | (turns % 64 == 63), mem) & agreed;
-    if directed {
-        report::line(reading::number(b, 0), x, n, same);
-    }
-    same
+    let same = agrees(b, a, mem, want);
+    clean(directed | (turns % 64 == 63), mem) & same
 }
 
-// The cases of a file. Answers the total, from what it was before.
+// Counts the cases of a file, on from what was counted before.
 fn table(
     fd: i32,
     directed: bool,
-    before: Row,
+    before: Tally,
     x: &mut [u8],
     b: &mut [u8],
     mem: &mut [u8],
     want: &mut [u8],
-) -> Row {
-    let mut all = before;
-    let mut row = report::fresh(0);
+) -> Tally {
+    let mut t = before;
     let mut turns: u32 = 0;
     while turns < 65536 {
         let n = read_case(fd, directed, x, b);
         if n == 0 {
-            report::ended(row);
-            return all;
+            return t;
         }
-        row = report::turned(row, reading::number(b, 0));
-        let same = judged(directed, turns, n, x, b, mem, want);
-        row = report::counted(row, same);
-        all = report::counted(all, same);
+        let same = judged(directed, turns, x, b, mem, want);
+        t = report::told(t, reading::number(b, 0), directed, x, n, same);
         turns += 1;
     }
-    report::ended(row);
-    all
+    t
 }
 
-// Opens a file of cases and writes its table.
-fn file(path: &[u8], directed: bool, before: Row) -> Row {
+// Opens a file of cases and counts them.
+fn file(path: &[u8], directed: bool, before: Tally) -> Tally {
     let fd = os::open_read(path);
     if fd < 0 {
         os::fail(path);
@@ -135,12 +111,12 @@ fn file(path: &[u8], directed: bool, before: Row) -> Row {
     let mut want = [0u8; 32768];
     let mut x = [0u8; 256];
     let mut b = [0u8; 256];
-    let all = table(fd, directed, before, &mut x, &mut b, &mut mem, &mut want);
+    let t = table(fd, directed, before, &mut x, &mut b, &mut mem, &mut want);
     libc::close(fd);
-    all
+    t
 }
 
 fn main() {
-    let all = file(b"cases", false, report::fresh(0));
-    report::total(file(b"directed", true, all));
+    let t = file(b"cases", false, report::nothing());
+    report::ended(file(b"directed", true, t));
 }

@@ -76,7 +76,7 @@ fn same_near(a: &[u8], b: &[u8], at: u32, n: u32) -> bool {
 }
 
 // Are they, wherever the case laid memory?
-pub fn same_laid(b: &[u8], mem: &[u8], want: &[u8]) -> bool {
+fn same_laid(b: &[u8], mem: &[u8], want: &[u8]) -> bool {
     let n = number(b, PIECES);
     let mut at = plus(PIECES, 1);
     let mut k: u32 = 0;
@@ -91,7 +91,7 @@ pub fn same_laid(b: &[u8], mem: &[u8], want: &[u8]) -> bool {
 }
 
 // Are they, wherever the machine is to leave a byte?
-pub fn same_left(b: &[u8], from: u32, mem: &[u8], want: &[u8]) -> bool {
+fn same_left(b: &[u8], from: u32, mem: &[u8], want: &[u8]) -> bool {
     let n = number(b, from);
     let mut at = plus(from, 1);
     let mut k: u32 = 0;
@@ -102,6 +102,10 @@ pub fn same_left(b: &[u8], from: u32, mem: &[u8], want: &[u8]) -> bool {
         k += 1;
     }
     same
+}
+
+pub fn same_memory(b: &[u8], left: u32, mem: &[u8], want: &[u8]) -> bool {
+    same_laid(b, mem, want) & same_left(b, left, mem, want)
 }
 
 // Was all memory clear? It is afterwards.

@@ -2,20 +2,32 @@
 use crate::reading::plus;
 use libc::STDOUT_FILENO;
 
-pub struct Row {
+struct Row {
     family: u32,
     cases: u32,
     differing: u32,
     first: u32,
 }
 
-pub fn fresh(family: u32) -> Row {
+// The row that is being counted, and the total.
+pub struct Tally {
+    row: Row,
+    all: Row,
+}
+
+fn fresh(family: u32) -> Row {
     Row {
         family,
         cases: 0,
         differing: 0,
         first: 0,
     }
+}
+
+pub fn nothing() -> Tally {
+    let row = fresh(0);
+    let all = fresh(0);
+    Tally { row, all }
 }
 
 fn text(s: &[u8]) {
@@ -45,7 +57,7 @@ fn name(family: u32) {
 }
 
 // A directed case's line. Its rule stands at bytes 22 to n of what it asks.
-pub fn line(family: u32, x: &[u8], n: usize, same: bool) {
+fn line(family: u32, x: &[u8], n: usize, same: bool) {
     name(family);
     if same {
         text(b" agrees: ");
@@ -75,7 +87,7 @@ fn print(r: Row) {
     text(b"\n");
 }
 
-pub fn counted(r: Row, same: bool) -> Row {
+fn counted(r: Row, same: bool) -> Row {
     if same {
         return Row {
             family: r.family,
@@ -93,22 +105,33 @@ pub fn counted(r: Row, same: bool) -> Row {
     }
 }
 
-pub fn ended(r: Row) {
-    if r.cases != 0 {
-        print(r);
-    }
-}
-
 // The row that the next case belongs to: this one, or, once it is written, a new one.
-pub fn turned(r: Row, family: u32) -> Row {
+fn turned(r: Row, family: u32) -> Row {
     if family == r.family {
         return r;
     }
-    ended(r);
+    print(r);
     fresh(family)
 }
 
-pub fn total(all: Row) {
+// Counts a case.
+pub fn told(t: Tally, family: u32, directed: bool, x: &[u8], n: usize, same: bool) -> Tally {
+    let r = t.row;
+    let s = t.all;
+    let q = turned(r, family);
+    if directed {
+        line(family, x, n, same);
+    }
+    let row = counted(q, same);
+    let all = counted(s, same);
+    Tally { row, all }
+}
+
+// Writes the last row, and the total.
+pub fn ended(t: Tally) {
+    let r = t.row;
+    let all = t.all;
+    print(r);
     text(b"in all   cases ");
     digits(all.cases);
     text(b", differing ");

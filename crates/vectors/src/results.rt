@@ -1,4 +1,6 @@
 // What the machine answered, compared with what the case says: the reply, and the record.
+use crate::asking::Ask;
+use crate::asking::RUN;
 use crate::reading::dword;
 use crate::reading::number;
 use crate::reading::plus;
@@ -7,6 +9,7 @@ use machine::Control;
 use machine::Cpu;
 use machine::Registers;
 use machine::Reply;
+use micro32::Ran;
 
 // A reply by its number, with what it carries: a vector, an error code, and an address or an index.
 pub struct Told {
@@ -47,7 +50,7 @@ fn numbered(q: Reply) -> Told {
     }
 }
 
-pub fn same_reply(b: &[u8], at: u32, q: Reply) -> bool {
+fn same_reply(b: &[u8], at: u32, q: Reply) -> bool {
     let t = numbered(q);
     (t.number == number(b, at))
         & (t.vector == number(b, plus(at, 1)))
@@ -96,7 +99,7 @@ fn same_registers(b: &[u8], from: u32, was: Registers, is: Registers) -> Place {
     p
 }
 
-// The record, where the case says what became of it. Answers where the stores begin.
+// The record, where the case says what became of it.
 fn advanced(b: &[u8], at: u32, was: Cpu, is: Cpu) -> Place {
     let r = was.regs;
     let s = is.regs;
@@ -130,11 +133,22 @@ fn unchanged(was: Cpu, is: Cpu) -> bool {
     same_all(r, s) & (is.eip == was.eip) & (is.eflags == was.eflags) & same_control(k, l)
 }
 
-// A case says what became of the record after Done and after a run; else it is as it was.
-pub fn same_record(b: &[u8], at: u32, says: bool, was: Cpu, is: Cpu) -> Place {
+fn same_record(b: &[u8], at: u32, says: bool, was: Cpu, is: Cpu) -> Place {
     if says {
         return advanced(b, at, was, is);
     }
     let same = unchanged(was, is);
     Place { at, same }
+}
+
+// A case says what became of the record after Done and after a run; else it is to be as it was. Answers where the stores begin.
+pub fn same_answer(b: &[u8], at: u32, a: Ask, was: Cpu, r: Ran) -> Place {
+    let q = r.reply;
+    let is = r.cpu;
+    let says = (number(b, at) == 0) | (a.call == RUN);
+    let p = same_record(b, plus(at, 7), says, was, is);
+    Place {
+        at: p.at,
+        same: p.same & (r.count == a.count) & same_reply(b, at, q),
+    }
 }

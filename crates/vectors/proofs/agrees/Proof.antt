@@ -16,26 +16,14 @@ record-requires c κs = search needs
 answered-requires : tie.Need-answered-requires
 answered-requires c κs = search needs
 
-number-requires : tie.Need-number-requires
-number-requires c κs = search needs
-
-plus-requires : tie.Need-plus-requires
-plus-requires c κs = search needs
-
-same-record-requires : tie.Need-same-record-requires
-same-record-requires c κs = search needs
+same-answer-requires : tie.Need-same-answer-requires
+same-answer-requires c κs = search needs
 
 patch-requires : tie.Need-patch-requires
 patch-requires c κs = search needs
 
-same-reply-requires : tie.Need-same-reply-requires
-same-reply-requires c κs = search needs
-
-same-laid-requires : tie.Need-same-laid-requires
-same-laid-requires c κs = search needs
-
-same-left-requires : tie.Need-same-left-requires
-same-left-requires c κs = search needs
+same-memory-requires : tie.Need-same-memory-requires
+same-memory-requires c κs = search needs
 
 clear-requires : tie.Need-clear-requires
 clear-requires c κs = search needs
@@ -44,10 +32,10 @@ clear-requires-2 : tie.Need-clear-requires-2
 clear-requires-2 c κs = search needs
 
 same-length : tie.Need-same-length
-same-length c = ((c .before .before .before .before .before .before .clear .kept .0)) ∙ ((c .before .before .before .before .before .before .before .before .before .before .before .before .before .before .before .before .before .before .before .before .before .before .before .before .before .before .before .before .before .answered .kept .1 .1 .0)) ∙ ((c .before .before .before .before .before .before .before .before .before .before .before .before .before .before .before .before .before .before .before .before .before .before .before .before .before .before .before .before .before .before .before .before .before .before .before .before .before .before .lay-all .kept .0))
+same-length c = ((c .before .before .before .before .before .before .clear .kept .0)) ∙ ((c .before .before .before .before .before .before .before .before .before .before .before .before .before .before .before .before .before .before .before .answered .kept .1 .1 .0)) ∙ ((c .before .before .before .before .before .before .before .before .before .before .before .before .before .before .before .before .before .before .before .before .before .before .before .before .before .before .before .before .lay-all .kept .0))
 
 same-length-2 : tie.Need-same-length-2
-same-length-2 c = ((c .before .before .clear2 .kept .0)) ∙ ((c .before .before .before .before .before .before .before .before .before .before .before .before .before .before .before .before .before .before .before .before .patch .kept .0)) ∙ ((c .before .before .before .before .before .before .before .before .before .before .before .before .before .before .before .before .before .before .before .before .before .before .before .before .before .before .before .before .before .before .before .before .before .before .lay-all2 .kept .0))
+same-length-2 c = ((c .before .before .clear2 .kept .0)) ∙ ((c .before .before .before .before .before .before .before .before .before .before .before .before .before .before .patch .kept .0)) ∙ ((c .before .before .before .before .before .before .before .before .before .before .before .before .before .before .before .before .before .before .before .before .before .before .before .before .lay-all2 .kept .0))
 
 returns : tie.Need-returns
 returns c = search needs
@@ -60,13 +48,9 @@ agrees-spec =
     lay-all-requires-2
     record-requires
     answered-requires
-    number-requires
-    plus-requires
-    same-record-requires
+    same-answer-requires
     patch-requires
-    same-reply-requires
-    same-laid-requires
-    same-left-requires
+    same-memory-requires
     clear-requires
     clear-requires-2
     same-length
