@@ -101,22 +101,23 @@ fn table(
 }
 
 // Opens a file of cases and counts them.
-fn file(path: &[u8], directed: bool, before: Tally) -> Tally {
+fn file(path: &[u8], directed: bool, before: Tally, mem: &mut [u8], want: &mut [u8]) -> Tally {
     let fd = os::open_read(path);
     if fd < 0 {
         os::fail(path);
         return before;
     }
-    let mut mem = [0u8; 32768];
-    let mut want = [0u8; 32768];
     let mut x = [0u8; 256];
     let mut b = [0u8; 256];
-    let t = table(fd, directed, before, &mut x, &mut b, &mut mem, &mut want);
+    let t = table(fd, directed, before, &mut x, &mut b, mem, want);
     libc::close(fd);
     t
 }
 
+// One memory for both files: the first directed case shows what the last generated ones left.
 fn main() {
-    let t = file(b"cases", false, report::nothing());
-    report::ended(file(b"directed", true, t));
+    let mut mem = [0u8; 32768];
+    let mut want = [0u8; 32768];
+    let t = file(b"cases", false, report::nothing(), &mut mem, &mut want);
+    report::ended(file(b"directed", true, t, &mut mem, &mut want));
 }
