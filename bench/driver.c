@@ -1,0 +1,138 @@
+/* driver GUESTS SYNC [--quick]: runs every guest on every engine, several times in turn, and prints instructions a second, the spread of
+ * the repeats, and ratios. Time is this process's processor time. All engines must leave the same registers and data. */
+#include <stdarg.h>
+#include <stdio.h>
+#include <stdlib.h>
+#include <string.h>
+#include <time.h>
+#include "engine.h"
+#include "jobs.h"
+
+static const struct engine *const ENGINES[] = {
+    &ours_flat,
+    &ours_paged,
+#ifdef WITH_X86EMU
+    &x86emu,
+#endif
+#ifdef WITH_UNICORN
+    &unicorn,
+#endif
+};
+#define COUNT (int)(sizeof ENGINES / sizeof *ENGINES)
+#define OURS 1                  /* ratios are to ours in ring 3 with paging */
+#define MAX_REPEATS 7
+
+static double seconds[JOBS][COUNT][MAX_REPEATS];
+
+void give_up(const char *format, ...) {
+    va_list values;
+    va_start(values, format);
+    fprintf(stderr, "bench: ");
+    vfprintf(stderr, format, values);
+    fprintf(stderr, "\n");
+    exit(1);
+}
+
+static double now(void) {
+    struct timespec t;
+    clock_gettime(CLOCK_PROCESS_CPUTIME_ID, &t);
+    return t.tv_sec + t.tv_nsec * 1e-9;
+}
+
+/* One measurement. The registers of the last pass are left in *end, the instructions of a pass in job where the engine is ours. */
+static double measure(struct job *job, const struct engine *engine, struct registers *end) {
+    double total = 0;
+    for (int pass = 0; pass < job->passes; pass++) {
+        double before = now();
+        void *e = engine->make(job);
+        double made = now();
+        engine->run(e);
+        double ran = now();
+        *end = engine->registers(e);
+        if (engine == &ours_flat)
+            job->instructions = ours_steps(e);
+        double read = now();
+        engine->drop(e);
+        total += ran - made;
+        if (job->passes > 1)
+            total += made - before + now() - read;
+    }
+    return total;
+}
+
+/* What a guest leaves: registers and data. Ours, flat, is the first and sets what the others must leave. */
+static struct registers expected;
+static uint8_t *expected_data;
+
+static void compare(const struct job *job, const struct engine *engine, const struct registers *end) {
+    const uint8_t *data = engine->pages ? job->paged + job->paged_data : job->linear + job->linear_data;
+    if (engine == ENGINES[0]) {
+        expected = *end;
+        memcpy(expected_data, data, job->data_length);
+    }
+    for (int i = 0; i < 9; i++)
+        if (end->of[i] != expected.of[i])
+            give_up("%s: %s leaves register %d as %08x, %s as %08x", job->name, engine->name, i, end->of[i], ENGINES[0]->name, expected.of[i]);
+    if (memcmp(data, expected_data, job->data_length))
+        give_up("%s: %s leaves other data", job->name, engine->name);
+}
+
+static void one_turn(struct job *job, int turn, double times[COUNT][MAX_REPEATS]) {
+    uint8_t *linear = new_memory(job->linear_length), *paged = new_memory(job->paged_length);
+    memcpy(linear, job->linear, job->linear_length);
+    memcpy(paged, job->paged, job->paged_length);
+    expected_data = new_memory(job->data_length);
+    for (int e = 0; e < COUNT; e++) {
+        struct registers end;
+        times[e][turn] = measure(job, ENGINES[e], &end);
+        compare(job, ENGINES[e], &end);
+        memcpy(job->linear, linear, job->linear_length);
+        memcpy(job->paged, paged, job->paged_length);
+    }
+    free(linear);
+    free(paged);
+    free(expected_data);
+}
+
+static double best(const double *times, int repeats) {
+    double least = times[0];
+    for (int i = 1; i < repeats; i++)
+        least = times[i] < least ? times[i] : least;
+    return least;
+}
+
+static double worst(const double *times, int repeats) {
+    double most = times[0];
+    for (int i = 1; i < repeats; i++)
+        most = times[i] > most ? times[i] : most;
+    return most;
+}
+
+static void print_guest(const struct job *job, double times[COUNT][MAX_REPEATS], int repeats) {
+    double instructions = (double)job->instructions * job->passes;
+    double ours = best(times[OURS], repeats);
+    printf("%s: %.1f million instructions%s\n", job->name, instructions * 1e-6, job->passes > 1 ? ", an engine made anew for each pass" : "");
+    if (job->passes > 1)
+        printf("  %d passes of %llu instructions\n", job->passes, (unsigned long long)job->instructions);
+    for (int e = 0; e < COUNT; e++) {
+        double least = best(times[e], repeats);
+        printf("  %-22s %9.2f million a second, spread %5.1f %%, %7.2f times ours in ring 3\n", ENGINES[e]->name, instructions / least * 1e-6,
+               (worst(times[e], repeats) / least - 1) * 100, ours / least);
+    }
+}
+
+int main(int count, char **words) {
+    if (count < 3)
+        give_up("usage: driver GUESTS SYNC [--quick]");
+    int quick = count > 3 && !strcmp(words[3], "--quick"), repeats = quick ? 3 : MAX_REPEATS;
+    struct job jobs[JOBS];
+    make_jobs(jobs, words[1], words[2], quick);
+    for (int turn = 0; turn < repeats; turn++)
+        for (int j = 0; j < JOBS; j++)
+            one_turn(&jobs[j], turn, seconds[j]);
+    printf("Best of %d repeats in turn, by processor time; the spread is from the best to the worst.\n", repeats);
+    for (int j = 0; j < JOBS; j++)
+        print_guest(&jobs[j], seconds[j], repeats);
+    printf("All engines left the same registers, flags and data.\n");
+    return 0;
+}

@@ -1,0 +1,15 @@
+/* The guests that are measured: five of guests.s and the sync program. */
+#ifndef JOBS_H
+#define JOBS_H
+
+#include "engine.h"
+
+#define JOBS 6
+
+/* GUESTS and SYNC are files with the images; a quick job is a tenth as long. The instructions are counted by a run of ours. */
+void make_jobs(struct job jobs[JOBS], const char *guests, const char *sync, int quick);
+
+uint8_t *new_memory(size_t length);
+void put_dword(uint8_t *memory, uint32_t at, uint32_t value);
+
+#endif
