@@ -1,10 +1,10 @@
-/* driver GUESTS SYNC [--quick]: runs every guest on every engine, several times in turn, and prints instructions a second, the spread of
- * the repeats, and ratios. Time is this process's processor time. All engines must leave the same registers and data. */
+/* driver GUESTS SYNC [--quick] [--bochs]: runs every guest on every engine, several times in turn, and prints instructions a second, the
+ * spread of the repeats, and ratios. Time is processor time. All engines must leave the same registers, flags and data. */
 #include <stdarg.h>
 #include <stdio.h>
 #include <stdlib.h>
 #include <string.h>
-#include <time.h>
+#include "clock.h"
 #include "engine.h"
 #include "jobs.h"
 
@@ -17,12 +17,14 @@ static const struct engine *const ENGINES[] = {
 #ifdef WITH_UNICORN
     &unicorn,
 #endif
+    &bochs,
 };
-#define COUNT (int)(sizeof ENGINES / sizeof *ENGINES)
+#define MOST (int)(sizeof ENGINES / sizeof *ENGINES)
 #define OURS 1                  /* ratios are to ours in ring 3 with paging */
 #define MAX_REPEATS 7
 
-static double seconds[JOBS][COUNT][MAX_REPEATS];
+static int engines = MOST - 1;  /* one more where Bochs is asked for */
+static double seconds[JOBS][MOST][MAX_REPEATS];
 
 void give_up(const char *format, ...) {
     va_list values;
@@ -33,14 +35,10 @@ void give_up(const char *format, ...) {
     exit(1);
 }
 
-static double now(void) {
-    struct timespec t;
-    clock_gettime(CLOCK_PROCESS_CPUTIME_ID, &t);
-    return t.tv_sec + t.tv_nsec * 1e-9;
-}
-
 /* One measurement. The registers of the last pass are left in *end, the instructions of a pass in job where the engine is ours. */
 static double measure(struct job *job, const struct engine *engine, struct registers *end) {
+    if (engine->measured)
+        return engine->measured(job, end);
     double total = 0;
     for (int pass = 0; pass < job->passes; pass++) {
         double before = now();
@@ -64,6 +62,7 @@ static double measure(struct job *job, const struct engine *engine, struct regis
 static struct registers expected;
 static uint8_t *expected_data;
 
+/* Bochs keeps its memory to itself. */
 static void compare(const struct job *job, const struct engine *engine, const struct registers *end) {
     const uint8_t *data = engine->pages ? job->paged + job->paged_data : job->linear + job->linear_data;
     if (engine == ENGINES[0]) {
@@ -73,16 +72,16 @@ static void compare(const struct job *job, const struct engine *engine, const st
     for (int i = 0; i < 9; i++)
         if (end->of[i] != expected.of[i])
             give_up("%s: %s leaves register %d as %08x, %s as %08x", job->name, engine->name, i, end->of[i], ENGINES[0]->name, expected.of[i]);
-    if (memcmp(data, expected_data, job->data_length))
+    if (!engine->measured && memcmp(data, expected_data, job->data_length))
         give_up("%s: %s leaves other data", job->name, engine->name);
 }
 
-static void one_turn(struct job *job, int turn, double times[COUNT][MAX_REPEATS]) {
+static void one_turn(struct job *job, int turn, double times[MOST][MAX_REPEATS]) {
     uint8_t *linear = new_memory(job->linear_length), *paged = new_memory(job->paged_length);
     memcpy(linear, job->linear, job->linear_length);
     memcpy(paged, job->paged, job->paged_length);
     expected_data = new_memory(job->data_length);
-    for (int e = 0; e < COUNT; e++) {
+    for (int e = 0; e < engines; e++) {
         struct registers end;
         times[e][turn] = measure(job, ENGINES[e], &end);
         compare(job, ENGINES[e], &end);
@@ -108,13 +107,14 @@ static double worst(const double *times, int repeats) {
     return most;
 }
 
-static void print_guest(const struct job *job, double times[COUNT][MAX_REPEATS], int repeats) {
+static void print_guest(const struct job *job, double times[MOST][MAX_REPEATS], int repeats) {
     double instructions = (double)job->instructions * job->passes;
     double ours = best(times[OURS], repeats);
-    printf("%s: %.1f million instructions%s\n", job->name, instructions * 1e-6, job->passes > 1 ? ", an engine made anew for each pass" : "");
+    printf("%s: %.1f million instructions", job->name, instructions * 1e-6);
     if (job->passes > 1)
-        printf("  %d passes of %llu instructions\n", job->passes, (unsigned long long)job->instructions);
-    for (int e = 0; e < COUNT; e++) {
+        printf(" in %d passes, an engine made anew for each (Bochs: one for all)", job->passes);
+    printf("\n");
+    for (int e = 0; e < engines; e++) {
         double least = best(times[e], repeats);
         printf("  %-22s %9.2f million a second, spread %5.1f %%, %7.2f times ours in ring 3\n", ENGINES[e]->name, instructions / least * 1e-6,
                (worst(times[e], repeats) / least - 1) * 100, ours / least);
@@ -123,16 +123,26 @@ static void print_guest(const struct job *job, double times[COUNT][MAX_REPEATS],
 
 int main(int count, char **words) {
     if (count < 3)
-        give_up("usage: driver GUESTS SYNC [--quick]");
-    int quick = count > 3 && !strcmp(words[3], "--quick"), repeats = quick ? 3 : MAX_REPEATS;
+        give_up("usage: driver GUESTS SYNC [--quick] [--bochs]");
+    int quick = 0;
+    for (int i = 3; i < count; i++) {
+        quick |= !strcmp(words[i], "--quick");
+        if (!strcmp(words[i], "--bochs"))
+            engines = MOST;
+    }
+    int repeats = quick ? 3 : MAX_REPEATS;
     struct job jobs[JOBS];
     make_jobs(jobs, words[1], words[2], quick);
+    if (engines == MOST && !bochs_works(&jobs[0])) {
+        printf("Bochs is here but doesn't run, and is left out.\n");
+        engines--;
+    }
     for (int turn = 0; turn < repeats; turn++)
         for (int j = 0; j < JOBS; j++)
             one_turn(&jobs[j], turn, seconds[j]);
     printf("Best of %d repeats in turn, by processor time; the spread is from the best to the worst.\n", repeats);
     for (int j = 0; j < JOBS; j++)
         print_guest(&jobs[j], seconds[j], repeats);
-    printf("All engines left the same registers, flags and data.\n");
+    printf("All engines left the same registers and flags, and the same data (Bochs's memory isn't seen).\n");
     return 0;
 }

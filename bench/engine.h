@@ -41,10 +41,12 @@ struct engine {
     void (*run)(void *);
     struct registers (*registers)(void *);
     void (*drop)(void *);
+    double (*measured)(struct job *, struct registers *); /* in place of the four calls, where the engine is a process of its own */
 };
 
-extern const struct engine ours_flat, ours_paged;
+extern const struct engine ours_flat, ours_paged, bochs;
 uint64_t ours_steps(void *);            /* how many instructions the run took */
+int bochs_works(const struct job *);    /* does it start here, and run the job for one round? */
 
 #ifdef WITH_X86EMU
 extern const struct engine x86emu;

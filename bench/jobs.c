@@ -38,7 +38,7 @@ void put_dword(uint8_t *memory, uint32_t at, uint32_t value) {
         memory[at + i] = value >> 8 * i;
 }
 
-static size_t load(const char *name, uint8_t *memory, size_t room) {
+size_t load(const char *name, uint8_t *memory, size_t room) {
     FILE *file = fopen(name, "rb");
     if (!file)
         give_up("cannot open %s", name);

@@ -10,6 +10,7 @@
 void make_jobs(struct job jobs[JOBS], const char *guests, const char *sync, int quick);
 
 uint8_t *new_memory(size_t length);
+size_t load(const char *name, uint8_t *memory, size_t room);
 void put_dword(uint8_t *memory, uint32_t at, uint32_t value);
 
 #endif

@@ -52,5 +52,5 @@ uint64_t ours_steps(void *machine) {
     return ((struct machine *)machine)->steps;
 }
 
-const struct engine ours_flat = {"ours, ring 0, flat", 0, make_flat, run, registers, free};
-const struct engine ours_paged = {"ours, ring 3, paged", 1, make_paged, run, registers, free};
+const struct engine ours_flat = {.name = "ours, ring 0, flat", .pages = 0, .make = make_flat, .run = run, .registers = registers, .drop = free};
+const struct engine ours_paged = {.name = "ours, ring 3, paged", .pages = 1, .make = make_paged, .run = run, .registers = registers, .drop = free};

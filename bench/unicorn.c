@@ -47,4 +47,4 @@ static void drop(void *emulator) {
     free(emulator);
 }
 
-const struct engine unicorn = {"Unicorn", 0, make, run, registers, drop};
+const struct engine unicorn = {.name = "Unicorn", .pages = 0, .make = make, .run = run, .registers = registers, .drop = drop};

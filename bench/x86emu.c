@@ -47,4 +47,4 @@ static void drop(void *emulator) {
     x86emu_done(emulator);
 }
 
-const struct engine x86emu = {"libx86emu", 0, make, run, registers, drop};
+const struct engine x86emu = {.name = "libx86emu", .pages = 0, .make = make, .run = run, .registers = registers, .drop = drop};
