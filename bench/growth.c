@@ -76,7 +76,7 @@ static void audits(void) {
                 double taken = now() - before;
                 least = taken < least ? taken : least;
             }
-            printf("  %4u tables of %4u pages: %9.3f ms\n", counts[c], pages[p], least * 1e3);
+            printf("  tables %4u, pages in each %4u: %9.3f ms\n", counts[c], pages[p], least * 1e3);
             free(memory);
         }
     }
