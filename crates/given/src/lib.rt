@@ -1,0 +1,19 @@
+// What a person hands over as text: numbers, a record, a list of edits. Nothing is guessed: whatever is not understood is named.
+mod edits;
+mod number;
+mod record;
+mod words;
+
+pub use edits::edit_at;
+pub use edits::Edit;
+pub use edits::Line;
+pub use edits::Slip;
+pub use edits::LAST_PASS;
+pub use number::number_of;
+pub use number::Number;
+pub use record::record_of;
+pub use record::Flaw;
+pub use record::Parsed;
+pub use record::Record;
+pub use words::next_line;
+pub use words::same;
