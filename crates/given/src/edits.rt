@@ -156,3 +156,33 @@ pub fn edit_at(s: &[u8], at: usize, waypoints: u32) -> Line {
     }
     moved(s, second.end, pass, waypoint)
 }
+
+// A list of edits that is understood, and the last pass that it names; or the first line that is not.
+pub enum Listed {
+    Good(u32),
+    Bad(u32, Slip),
+}
+
+fn later(last: u32, l: Line) -> u32 {
+    let Line::Edit(e) = l else {
+        return last;
+    };
+    if last < e.pass { e.pass } else { last }
+}
+
+// Reads every line, for a plan of so many waypoints.
+pub fn check_edits(s: &[u8], waypoints: u32) -> Listed {
+    let mut last: u32 = 0;
+    let mut at: usize = 0;
+    let mut n: u32 = 1;
+    while at < s.len() {
+        let l = edit_at(s, at, waypoints);
+        if let Line::Wrong(slip) = l {
+            return Listed::Bad(n, slip);
+        }
+        last = later(last, l);
+        at = words::next_line(s, at);
+        n = std::num::wrapping_add_u32(n, 1);
+    }
+    Listed::Good(last)
+}

@@ -4,9 +4,11 @@ mod number;
 mod record;
 mod words;
 
+pub use edits::check_edits;
 pub use edits::edit_at;
 pub use edits::Edit;
 pub use edits::Line;
+pub use edits::Listed;
 pub use edits::Slip;
 pub use edits::LAST_PASS;
 pub use number::number_of;

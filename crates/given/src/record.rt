@@ -84,21 +84,6 @@ fn place_of_control(s: &[u8], w: Word) -> u32 {
     NAMES
 }
 
-fn get(values: &[u32], k: u32) -> u32 {
-    let i = k as usize;
-    if i < values.len() {
-        return values[i];
-    }
-    0
-}
-
-fn put(values: &mut [u32], k: u32, x: u32) {
-    let i = k as usize;
-    if i < values.len() {
-        values[i] = x;
-    }
-}
-
 // Takes the value after the name in place k.
 fn take(s: &[u8], from: usize, values: &mut [u32], k: u32) -> Flaw {
     let w = words::word_from(s, from);
@@ -112,7 +97,7 @@ fn take(s: &[u8], from: usize, values: &mut [u32], k: u32) -> Flaw {
     if !words::is_empty(words::word_from(s, w.end)) {
         return Flaw::MoreAfter;
     }
-    put(values, k, x);
+    cells::put_number(values, k, x);
     Flaw::Nothing
 }
 
@@ -126,10 +111,10 @@ fn line(s: &[u8], at: usize, values: &mut [u32], seen: &mut [u32]) -> Flaw {
     if k == NAMES {
         return Flaw::UnknownName;
     }
-    if get(seen, k) == 1 {
+    if cells::number(seen, k) == 1 {
         return Flaw::NamedTwice;
     }
-    put(seen, k, 1);
+    cells::put_number(seen, k, 1);
     take(s, w.end, values, k)
 }
 
@@ -154,30 +139,30 @@ fn lines(s: &[u8], values: &mut [u32], seen: &mut [u32]) -> Parsed {
 fn registers(v: &[u32]) -> Registers {
     Registers {
         e: [
-            get(v, 0),
-            get(v, 1),
-            get(v, 2),
-            get(v, 3),
-            get(v, 4),
-            get(v, 5),
-            get(v, 6),
-            get(v, 7),
+            cells::number(v, 0),
+            cells::number(v, 1),
+            cells::number(v, 2),
+            cells::number(v, 3),
+            cells::number(v, 4),
+            cells::number(v, 5),
+            cells::number(v, 6),
+            cells::number(v, 7),
         ],
     }
 }
 
 fn cpu(v: &[u32]) -> Cpu {
     let control = Control {
-        cr0: get(v, 10),
-        cr2: get(v, 11),
-        cr3: get(v, 12),
-        ring: get(v, 13),
+        cr0: cells::number(v, 10),
+        cr2: cells::number(v, 11),
+        cr3: cells::number(v, 12),
+        ring: cells::number(v, 13),
     };
     let regs = registers(v);
     Cpu {
         regs,
-        eip: get(v, 8),
-        eflags: get(v, 9),
+        eip: cells::number(v, 8),
+        eflags: cells::number(v, 9),
         control,
     }
 }

@@ -1,0 +1,15 @@
+// The log's sentences: replies, records and frames, in words for a person and as `key=value` lines for a script.
+mod explain;
+mod frame;
+mod record;
+mod short;
+
+pub use explain::explained;
+pub use frame::frames;
+pub use frame::Tally;
+pub use frame::Voice;
+pub use record::cpu_lines;
+pub use record::cpu_table;
+pub use record::unsound;
+pub use short::reply_lines;
+pub use short::short;
