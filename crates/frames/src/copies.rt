@@ -96,3 +96,9 @@ pub fn change_of(mem: &[u8], copies: &[u8], slots: &[u32], f: u32) -> Change {
     }
     if marks { Change::Marks } else { Change::Nothing }
 }
+
+// Is frame f as it was?
+pub fn is_same(mem: &[u8], copies: &[u8], slots: &[u32], f: u32) -> bool {
+    let change = change_of(mem, copies, slots, f);
+    if let Change::Nothing = change { true } else { false }
+}

@@ -3,6 +3,7 @@ mod copies;
 mod maps;
 
 pub use copies::change_of;
+pub use copies::is_same;
 pub use copies::remember;
 pub use copies::Change;
 pub use maps::holds_table;

@@ -1,5 +1,5 @@
 // A reply explained to a person who is no programmer.
-use crate::short::short;
+use crate::reply::short;
 use libc::STDOUT_FILENO;
 use machine::Control;
 use machine::Reply;

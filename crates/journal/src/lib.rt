@@ -2,7 +2,7 @@
 mod explain;
 mod frame;
 mod record;
-mod short;
+mod reply;
 
 pub use explain::explained;
 pub use frame::frames;
@@ -11,5 +11,6 @@ pub use frame::Voice;
 pub use record::cpu_lines;
 pub use record::cpu_table;
 pub use record::unsound;
-pub use short::reply_lines;
-pub use short::short;
+pub use reply::number;
+pub use reply::reply_lines;
+pub use reply::short;

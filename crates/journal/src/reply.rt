@@ -28,7 +28,7 @@ pub fn short(q: Reply) {
     }
 }
 
-fn number(q: Reply) -> u32 {
+pub fn number(q: Reply) -> u32 {
     match q {
         Reply::Done => 0,
         Reply::Fault(_, _, _) => 1,
