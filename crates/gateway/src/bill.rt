@@ -4,22 +4,14 @@ use crate::ask;
 use crate::files;
 use crate::order;
 use crate::order::Order;
-use crate::pass;
-use crate::pass::Done;
-use crate::pass::Passed;
 use crate::run;
-use crate::stairs;
-use crate::table;
-use crate::verdict;
 use given::Listed;
 use given::Slip;
-use journal::Tally;
 use journal::Voice;
 use libc::STDOUT_FILENO;
 use machine::Cpu;
-use text::decimal;
+use pass::Passed;
 use text::say;
-use waypoints::Applied;
 use waypoints::Found;
 use waypoints::Plan;
 
@@ -37,73 +29,21 @@ fn slip(n: u32, s: Slip) {
         Slip::Pass => ask::complain_of_line(order::EDITS, n, b"a line begins with a pass from 1 to 63"),
         Slip::Waypoint => ask::complain_of_line(order::EDITS, n, b"after the pass stands jitter or a waypoint of the plan"),
         Slip::Axis => ask::complain_of_line(order::EDITS, n, b"after the waypoint stands lat or lon"),
-        Slip::Delta => ask::complain_of_line(order::EDITS, n, b"the change is no decimal number with or without a sign"),
+        Slip::Delta => ask::complain_of_line(order::EDITS, n, b"the change is a decimal number up to 4294967295, with or without a sign"),
         Slip::Jitter => ask::complain_of_line(order::EDITS, n, b"jitter is -1 or 1"),
         Slip::MoreAfter => ask::complain_of_line(order::EDITS, n, b"there is more after the change"),
     }
 }
 
-fn heading(pass: u32, a: Applied, changed: u32, plain: bool) {
-    if plain {
-        text::count_line(STDOUT_FILENO, b"pass", pass);
-        text::count_line(STDOUT_FILENO, b"edits", a.edits);
-        text::count_line(STDOUT_FILENO, b"jitters", a.jitters);
-        text::count_line(STDOUT_FILENO, b"changed", changed);
-        return;
-    }
-    say(STDOUT_FILENO, b"pass ");
-    decimal(STDOUT_FILENO, pass);
-    say(STDOUT_FILENO, b": ");
-    decimal(STDOUT_FILENO, a.edits);
-    say(STDOUT_FILENO, b" edits");
-    if a.jitters != 0 {
-        say(STDOUT_FILENO, b", noise in every last bit");
-    }
-    text::end(STDOUT_FILENO);
-}
-
-// Makes the edits for a pass, and notes what is due to be sent.
-fn edit(
-    mem: &mut [u8],
-    ground: &[u8],
-    rows: &mut [u32],
-    s: &[u8],
-    p: Plan,
-    pass: u32,
-    plain: bool,
-) {
+// Makes the edits for a pass, and opens its row with what is due to be sent.
+fn edit(mem: &mut [u8], ground: &[u8], rows: &mut [u32], s: &[u8], p: Plan, pass: u32) {
     let a = waypoints::apply(s, pass, mem, p);
     let changed = waypoints::differing(mem, p, ground);
-    table::put(rows, pass, table::EDITS, a.edits);
-    table::put(rows, pass, table::JITTERS, a.jitters);
-    table::put(rows, pass, table::CHANGED, changed);
-    heading(pass, a, changed, plain);
+    account::open(rows, pass, a.edits, a.jitters, changed);
 }
 
-fn note(rows: &mut [u32], pass: u32, d: Done, t: Tally, before: u32, after: u32) {
-    table::put(rows, pass, table::SENT, d.sent);
-    table::put(rows, pass, table::BYTES, d.bytes);
-    table::put(rows, pass, table::STEPS, d.steps);
-    table::put(rows, pass, table::BEFORE, before);
-    table::put(rows, pass, table::AFTER, after);
-    table::put(rows, pass, table::OWN, t.own);
-    table::put(rows, pass, table::MARKS, t.marks);
-    table::put(rows, pass, table::NEITHER, t.neither);
-}
-
-fn plain_row(rows: &[u32], pass: u32) {
-    text::count_line(STDOUT_FILENO, b"sent", table::get(rows, pass, table::SENT));
-    text::count_line(STDOUT_FILENO, b"bytes", table::get(rows, pass, table::BYTES));
-    text::count_line(STDOUT_FILENO, b"steps", table::get(rows, pass, table::STEPS));
-    text::count_line(STDOUT_FILENO, b"audit_before", table::get(rows, pass, table::BEFORE));
-    text::count_line(STDOUT_FILENO, b"audit_after", table::get(rows, pass, table::AFTER));
-    text::count_line(STDOUT_FILENO, b"frames.own", table::get(rows, pass, table::OWN));
-    text::count_line(STDOUT_FILENO, b"frames.marks", table::get(rows, pass, table::MARKS));
-    text::count_line(STDOUT_FILENO, b"frames.neither", table::get(rows, pass, table::NEITHER));
-}
-
-// Plays one pass, with an audit before and after, and notes what it did.
-fn one_pass(
+// Plays one pass, with an audit before and after, and closes its row.
+fn play(
     mem: &mut [u8],
     ground: &mut [u8],
     rows: &mut [u32],
@@ -119,29 +59,76 @@ fn one_pass(
     let e = r.cpu;
     let after = journal::number(micro32::audit(e, mem));
     let t = journal::frames(Voice::Silent, mem, e.control, copies, slots);
-    note(rows, pass, r.done, t, before, after);
-    if o.plain {
-        plain_row(rows, pass);
-        let q = r.reply;
-        journal::reply_lines(b"reply", q);
-    }
+    let d = r.done;
+    account::work(rows, pass, d.sent, d.bytes, d.steps);
+    account::close(rows, pass, t, before, after);
     r
 }
 
-// A pass that the guest did not end by itself: what was written so far, why, and whether the kernel's records were touched.
+fn tell(rows: &[u32], r: Passed, pass: u32, plain: bool) {
+    account::end(rows, pass, plain);
+    if plain {
+        let q = r.reply;
+        journal::reply_lines(b"reply", q);
+    }
+}
+
+// A pass that the guest did not end by itself: why, and whether the kernel's records were touched.
 fn stopped(mem: &[u8], rows: &[u32], copies: &[u8], slots: &[u32], r: Passed, pass: u32, plain: bool) {
     if !plain {
-        table::print(rows, pass);
-        stairs::print(rows, pass, false);
-        say(STDOUT_FILENO, b"\nthe bill ends in pass ");
-        decimal(STDOUT_FILENO, pass);
-        say(STDOUT_FILENO, b", which the guest did not end by itself\n  reply         ");
+        account::break_off(rows, pass);
+        say(STDOUT_FILENO, b"  reply         ");
         let c = r.cpu;
         let q = r.reply;
         journal::explained(mem, c.control, q);
         text::end(STDOUT_FILENO);
     }
     run::records(mem, copies, slots, plain);
+}
+
+// Whether there is a next pass, and the record that it begins with.
+struct Next {
+    goes_on: bool,
+    cpu: Cpu,
+}
+
+// One pass with all that belongs to it.
+fn turn(
+    mem: &mut [u8],
+    ground: &mut [u8],
+    rows: &mut [u32],
+    copies: &mut [u8],
+    slots: &mut [u32],
+    s: &[u8],
+    p: Plan,
+    c: Cpu,
+    o: Order,
+    pass: u32,
+) -> Next {
+    edit(mem, ground, rows, s, p, pass);
+    if !frames::remember(mem, copies, slots) {
+        run::complain_of_frames();
+        return Next {
+            goes_on: false,
+            cpu: c,
+        };
+    }
+    account::begin(rows, pass, o.plain);
+    let r = play(mem, ground, rows, copies, slots, p, c, o, pass);
+    tell(rows, r, pass, o.plain);
+    let q = r.reply;
+    let e = r.cpu;
+    if !pass::is_end(q) {
+        stopped(mem, rows, copies, slots, r, pass, o.plain);
+        return Next {
+            goes_on: false,
+            cpu: e,
+        };
+    }
+    Next {
+        goes_on: true,
+        cpu: pass::after(e, q),
+    }
 }
 
 // All passes, or up to the first that the guest does not end by itself.
@@ -157,32 +144,26 @@ fn passes(
     o: Order,
     last: u32,
 ) {
-    let mut now = c;
+    let mut cpu = c;
     let mut pass: u32 = 0;
     while pass < last {
         pass += 1;
-        edit(mem, ground, rows, s, p, pass, o.plain);
-        if !frames::remember(mem, copies, slots) {
-            run::complain_of_frames();
+        let n = turn(mem, ground, rows, copies, slots, s, p, cpu, o, pass);
+        if !n.goes_on {
             return;
         }
-        let r = one_pass(mem, ground, rows, copies, slots, p, now, o, pass);
-        let q = r.reply;
-        let e = r.cpu;
-        if !pass::is_end(q) {
-            stopped(mem, rows, copies, slots, r, pass, o.plain);
-            return;
-        }
-        now = pass::after(e, q);
+        let next = n.cpu;
+        cpu = next;
     }
-    verdict::print(rows, last, p.waypoints, waypoints::differing(mem, p, ground), o.plain);
+    let differing = waypoints::differing(mem, p, ground);
+    account::sum_up(rows, last, p.waypoints, differing, o.plain);
 }
 
 // The passes that the edits name and one more, from a ground that has the plan as it was last sent.
 fn begin(mem: &mut [u8], copies: &mut [u8], s: &[u8], p: Plan, c: Cpu, o: Order, last: u32) {
     let mut ground = [0u8; 65536];
-    let mut rows = [0u32; 1024];
-    let mut slots = [0u32; 1024];
+    let mut rows = [0u32; account::ROOM];
+    let mut slots = [0u32; run::FRAMES];
     waypoints::seed(mem, p, &mut ground);
     passes(mem, &mut ground, &mut rows, copies, &mut slots, s, p, c, o, last);
 }

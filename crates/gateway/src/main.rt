@@ -3,11 +3,7 @@ mod ask;
 mod bill;
 mod files;
 mod order;
-mod pass;
 mod run;
-mod stairs;
-mod table;
-mod verdict;
 
 use libc::STDOUT_FILENO;
 use order::Asked;

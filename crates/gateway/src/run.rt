@@ -3,14 +3,13 @@ use crate::ask;
 use crate::files;
 use crate::order;
 use crate::order::Order;
-use crate::pass;
-use crate::pass::Done;
-use crate::pass::Passed;
 use journal::Tally;
 use journal::Voice;
 use libc::STDOUT_FILENO;
 use machine::Cpu;
 use machine::Reply;
+use pass::Done;
+use pass::Passed;
 
 // The frames of memory, and what is said where copies of them do not fit.
 pub const FRAMES: usize = 1024;

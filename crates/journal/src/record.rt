@@ -1,95 +1,116 @@
 // The record by name, and which of its rules a record breaks.
 use libc::STDOUT_FILENO;
-use machine::Control;
 use machine::Cpu;
-use machine::Registers;
 use text::say;
 
-fn value(name: &[u8], x: u32) {
-    say(STDOUT_FILENO, name);
-    text::hex(STDOUT_FILENO, x);
-}
+// The fourteen values of a record, in this order.
+const VALUES: u32 = 14;
 
-fn registers(r: Registers) {
-    value(b"  EAX ", r.read(0));
-    value(b"  ECX ", r.read(1));
-    value(b"  EDX ", r.read(2));
-    value(b"  EBX ", r.read(3));
-    text::end(STDOUT_FILENO);
-    value(b"  ESP ", r.read(4));
-    value(b"  EBP ", r.read(5));
-    value(b"  ESI ", r.read(6));
-    value(b"  EDI ", r.read(7));
-    text::end(STDOUT_FILENO);
-}
-
-fn bit(name: &[u8], x: u32) {
-    if x % 2 == 1 {
-        say(STDOUT_FILENO, name);
+fn name(n: u32) {
+    match n {
+        0 => say(STDOUT_FILENO, b"EAX"),
+        1 => say(STDOUT_FILENO, b"ECX"),
+        2 => say(STDOUT_FILENO, b"EDX"),
+        3 => say(STDOUT_FILENO, b"EBX"),
+        4 => say(STDOUT_FILENO, b"ESP"),
+        5 => say(STDOUT_FILENO, b"EBP"),
+        6 => say(STDOUT_FILENO, b"ESI"),
+        7 => say(STDOUT_FILENO, b"EDI"),
+        8 => say(STDOUT_FILENO, b"EIP"),
+        9 => say(STDOUT_FILENO, b"EFLAGS"),
+        10 => say(STDOUT_FILENO, b"CR0"),
+        11 => say(STDOUT_FILENO, b"CR2"),
+        12 => say(STDOUT_FILENO, b"CR3"),
+        _ => say(STDOUT_FILENO, b"RING"),
     }
 }
 
-// The flags that are set, by name, and IOPL.
+fn value(c: Cpu, n: u32) -> u32 {
+    let r = c.regs;
+    let k = c.control;
+    match n {
+        0..=7 => r.read(n),
+        8 => c.eip,
+        9 => c.eflags,
+        10 => k.cr0,
+        11 => k.cr2,
+        12 => k.cr3,
+        _ => k.ring,
+    }
+}
+
+fn named(before: &[u8], n: u32, between: &[u8], x: u32) {
+    say(STDOUT_FILENO, before);
+    name(n);
+    say(STDOUT_FILENO, between);
+    text::hex(STDOUT_FILENO, x);
+}
+
+// The record as lines `NAME=value`.
+pub fn cpu_lines(c: Cpu) {
+    let mut n: u32 = 0;
+    while n < VALUES {
+        named(b"", n, b"=", value(c, n));
+        text::end(STDOUT_FILENO);
+        n += 1;
+    }
+}
+
+// A line ends after the registers 3 and 7, and after the last value.
+fn break_line(n: u32) {
+    if (n == 3) | (n == 7) | (n == 13) {
+        text::end(STDOUT_FILENO);
+    }
+}
+
+fn values(c: Cpu) {
+    let mut n: u32 = 0;
+    while n < VALUES {
+        named(b"  ", n, b" ", value(c, n));
+        break_line(n);
+        n += 1;
+    }
+}
+
+fn bit(x: u32, word: &[u8]) {
+    if x % 2 == 1 {
+        say(STDOUT_FILENO, word);
+    }
+}
+
+fn status(e: u32) {
+    bit(e, b" CF");
+    bit(e / 4, b" PF");
+    bit(e / 16, b" AF");
+    bit(e / 64, b" ZF");
+    bit(e / 128, b" SF");
+}
+
+// The flags that are set, and IOPL.
 fn flags(e: u32) {
-    bit(b" CF", e);
-    bit(b" PF", e / 4);
-    bit(b" AF", e / 16);
-    bit(b" ZF", e / 64);
-    bit(b" SF", e / 128);
-    bit(b" IF", e / 512);
-    bit(b" DF", e / 1024);
-    bit(b" OF", e / 2048);
-    say(STDOUT_FILENO, b" IOPL ");
+    say(STDOUT_FILENO, b"  flags set:");
+    status(e);
+    bit(e / 512, b" IF");
+    bit(e / 1024, b" DF");
+    bit(e / 2048, b" OF");
+    say(STDOUT_FILENO, b", IOPL ");
     text::decimal(STDOUT_FILENO, e / 4096 % 4);
 }
 
-fn control(k: Control) {
-    value(b"  CR0 ", k.cr0);
-    value(b"  CR2 ", k.cr2);
-    value(b"  CR3 ", k.cr3);
-    say(STDOUT_FILENO, b"  ring ");
-    text::decimal(STDOUT_FILENO, k.ring);
-    say(STDOUT_FILENO, b", CR0 set:");
-    bit(b" PE", k.cr0);
-    bit(b" WP", k.cr0 / 65536);
-    bit(b" PG", k.cr0 / 2147483648);
+fn modes(cr0: u32) {
+    say(STDOUT_FILENO, b"; CR0 set:");
+    bit(cr0, b" PE");
+    bit(cr0 / 65536, b" WP");
+    bit(cr0 / 2147483648, b" PG");
     text::end(STDOUT_FILENO);
 }
 
-// Four lines: the registers, where it stands and its flags, the control registers.
+// Four lines: the registers, the rest of the record, and what its bits say.
 pub fn cpu_table(c: Cpu) {
-    let r = c.regs;
-    registers(r);
-    value(b"  EIP ", c.eip);
-    value(b"  EFLAGS ", c.eflags);
-    say(STDOUT_FILENO, b", set:");
-    flags(c.eflags);
-    text::end(STDOUT_FILENO);
-    control(c.control);
-}
-
-fn line(key: &[u8], x: u32) {
-    text::address_line(STDOUT_FILENO, key, x);
-}
-
-// The same, as `key=value` lines.
-pub fn cpu_lines(c: Cpu) {
-    let r = c.regs;
-    line(b"eax", r.read(0));
-    line(b"ecx", r.read(1));
-    line(b"edx", r.read(2));
-    line(b"ebx", r.read(3));
-    line(b"esp", r.read(4));
-    line(b"ebp", r.read(5));
-    line(b"esi", r.read(6));
-    line(b"edi", r.read(7));
-    line(b"eip", c.eip);
-    line(b"eflags", c.eflags);
     let k = c.control;
-    line(b"cr0", k.cr0);
-    line(b"cr2", k.cr2);
-    line(b"cr3", k.cr3);
-    text::count_line(STDOUT_FILENO, b"ring", k.ring);
+    values(c);
+    flags(c.eflags);
+    modes(k.cr0);
 }
 
 fn broken(out: i32, name: &[u8], x: u32, rule: &[u8]) {

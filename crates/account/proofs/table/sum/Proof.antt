@@ -1,8 +1,8 @@
--- `gateway::table::sum` is safe and ends. Assumes nothing.
+-- `account::table::sum` is safe and ends. Assumes nothing.
 use Prim.Native.Nat.{_-_}
 use borrow.Author.Needs.{needs}
-use Rattle.gateway.proofs.table.sum.Statement.{statement}
-use Rattle.gateway.proofs.table.sum.Tie as tie
+use Rattle.account.proofs.table.sum.Statement.{statement}
+use Rattle.account.proofs.table.sum.Tie as tie
 
 abbrev Inv-loop : tie.InvT-loop
 Inv-loop rows column last total₀ pass₀ total pass = Unit {0}

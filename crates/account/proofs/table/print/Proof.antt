@@ -1,8 +1,8 @@
--- `gateway::table::print` is safe and ends. Assumes nothing.
+-- `account::table::print` is safe and ends. Assumes nothing.
 use Prim.Native.Nat.{_-_}
 use borrow.Author.Needs.{needs}
-use Rattle.gateway.proofs.table.print.Statement.{statement}
-use Rattle.gateway.proofs.table.print.Tie as tie
+use Rattle.account.proofs.table.print.Statement.{statement}
+use Rattle.account.proofs.table.print.Tie as tie
 
 abbrev Inv-loop : tie.InvT-loop
 Inv-loop rows last pass₀ pass = Unit {0}
@@ -15,12 +15,6 @@ slice-aggregate-say c = search needs
 
 say-requires : tie.Need-say-requires Inv-loop μ-loop
 say-requires c κs = search needs
-
-slice-aggregate-say-2 : tie.Need-slice-aggregate-say-2 Inv-loop μ-loop
-slice-aggregate-say-2 c = search needs
-
-say-requires-2 : tie.Need-say-requires-2 Inv-loop μ-loop
-say-requires-2 c κs = search needs
 
 loop-holds : tie.Need-loop-holds Inv-loop μ-loop
 loop-holds c = search needs
@@ -48,8 +42,6 @@ print-spec =
     μ-loop
     slice-aggregate-say
     say-requires
-    slice-aggregate-say-2
-    say-requires-2
     loop-holds
     add-pass
     row-requires

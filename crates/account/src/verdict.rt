@@ -1,5 +1,4 @@
 // What the passes came to: a pass that sent more than it should, the total, and whether the ground has the cabin's plan.
-use crate::stairs;
 use crate::table;
 use libc::STDOUT_FILENO;
 use text::decimal;
@@ -17,6 +16,22 @@ fn is_waste(rows: &[u32], pass: u32, waypoints: u32) -> bool {
     (table::get(rows, pass, table::CHANGED) == 0) & (table::get(rows, pass, table::SENT) == waypoints)
 }
 
+fn warn_of_waste(rows: &[u32], pass: u32, sent: u32) {
+    say(STDOUT_FILENO, b" sent the whole plan although nothing changed: ");
+    amount(sent, table::get(rows, pass, table::BYTES));
+    if table::get(rows, pass, table::JITTERS) != 0 {
+        say(STDOUT_FILENO, b" for noise in the last bit");
+    }
+}
+
+fn warn_of_difference(sent: u32, changed: u32) {
+    say(STDOUT_FILENO, b" sent ");
+    decimal(STDOUT_FILENO, sent);
+    say(STDOUT_FILENO, b" waypoints where ");
+    decimal(STDOUT_FILENO, changed);
+    say(STDOUT_FILENO, b" had changed");
+}
+
 fn warn(rows: &[u32], pass: u32, waypoints: u32) {
     let sent = table::get(rows, pass, table::SENT);
     let changed = table::get(rows, pass, table::CHANGED);
@@ -26,17 +41,9 @@ fn warn(rows: &[u32], pass: u32, waypoints: u32) {
     say(STDOUT_FILENO, b"pass ");
     decimal(STDOUT_FILENO, pass);
     if is_waste(rows, pass, waypoints) {
-        say(STDOUT_FILENO, b" sent the whole plan although nothing changed: ");
-        amount(sent, table::get(rows, pass, table::BYTES));
-        if table::get(rows, pass, table::JITTERS) != 0 {
-            say(STDOUT_FILENO, b" for noise in the last bit");
-        }
+        warn_of_waste(rows, pass, sent);
     } else {
-        say(STDOUT_FILENO, b" sent ");
-        decimal(STDOUT_FILENO, sent);
-        say(STDOUT_FILENO, b" waypoints where ");
-        decimal(STDOUT_FILENO, changed);
-        say(STDOUT_FILENO, b" had changed");
+        warn_of_difference(sent, changed);
     }
     text::end(STDOUT_FILENO);
 }
@@ -72,7 +79,7 @@ fn ground(differing: u32, waypoints: u32) {
     say(STDOUT_FILENO, b" waypoints (last bit aside)\n");
 }
 
-fn lines(rows: &[u32], last: u32, differing: u32, landed: bool) {
+pub fn lines(rows: &[u32], last: u32, differing: u32, landed: bool) {
     text::count_line(STDOUT_FILENO, b"total.passes", last);
     text::count_line(STDOUT_FILENO, b"total.sent", table::sum(rows, table::SENT, last));
     text::count_line(STDOUT_FILENO, b"total.bytes", table::sum(rows, table::BYTES, last));
@@ -80,15 +87,7 @@ fn lines(rows: &[u32], last: u32, differing: u32, landed: bool) {
     text::count_line(STDOUT_FILENO, b"landing", if landed { 1 } else { 0 });
 }
 
-// The last pass is a landing where it sent nothing and the ground has all.
-pub fn print(rows: &[u32], last: u32, waypoints: u32, differing: u32, plain: bool) {
-    let landed = (table::get(rows, last, table::SENT) == 0) & (differing == 0);
-    if plain {
-        lines(rows, last, differing, landed);
-        return;
-    }
-    table::print(rows, last);
-    stairs::print(rows, last, landed);
+pub fn print(rows: &[u32], last: u32, waypoints: u32, differing: u32) {
     text::end(STDOUT_FILENO);
     warnings(rows, last, waypoints);
     total(rows, last);

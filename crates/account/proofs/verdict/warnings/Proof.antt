@@ -1,8 +1,8 @@
--- `gateway::verdict::warnings` is safe and ends. Assumes nothing.
+-- `account::verdict::warnings` is safe and ends. Assumes nothing.
 use Prim.Native.Nat.{_-_}
 use borrow.Author.Needs.{needs}
-use Rattle.gateway.proofs.verdict.warnings.Statement.{statement}
-use Rattle.gateway.proofs.verdict.warnings.Tie as tie
+use Rattle.account.proofs.verdict.warnings.Statement.{statement}
+use Rattle.account.proofs.verdict.warnings.Tie as tie
 
 abbrev Inv-loop : tie.InvT-loop
 Inv-loop rows last waypoints pass₀ pass = Unit {0}

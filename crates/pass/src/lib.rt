@@ -22,28 +22,16 @@ pub struct Passed {
     pub done: Done,
 }
 
-// The guest asks to send a waypoint, and would go on there; or it does not.
-enum Request {
-    Send(u32),
-    Other,
-}
-
-fn requested(q: Reply) -> Request {
-    let Reply::Trap(vector, next) = q else {
-        return Request::Other;
+fn asks(q: Reply, number: u32) -> bool {
+    let Reply::Trap(vector, _) = q else {
+        return false;
     };
-    if vector == SEND {
-        return Request::Send(next);
-    }
-    Request::Other
+    vector == number
 }
 
 // Has the guest ended its pass by itself?
 pub fn is_end(q: Reply) -> bool {
-    let Reply::Trap(vector, _) = q else {
-        return false;
-    };
-    vector == END
+    asks(q, END)
 }
 
 // The record, to go on behind the interrupt.
@@ -142,8 +130,51 @@ fn answer(mem: &[u8], ground: &mut [u8], waypoints: u32, c: Cpu, v: Voice, d: Do
     }
 }
 
-fn ended(cpu: Cpu, reply: Reply, done: Done) -> Passed {
-    Passed { cpu, reply, done }
+// Where a pass stands after one run: the guest goes on, or the reply ended the pass.
+struct Turn {
+    goes_on: bool,
+    cpu: Cpu,
+    reply: Reply,
+    done: Done,
+    left: u32,
+}
+
+// Runs the guest to its next reply, and answers that if it asks to send.
+fn take_turn(
+    mem: &mut [u8],
+    ground: &mut [u8],
+    waypoints: u32,
+    c: Cpu,
+    left: u32,
+    v: Voice,
+    d: Done,
+) -> Turn
+    requires { ⌜ 0 < left ⌝ }
+    ensures { λ r. ⌜ r .left < left ⌝ }
+{
+    let r = micro32::run(c, mem, left);
+    let reply = r.reply;
+    let e = r.cpu;
+    let rest = less(left, r.count);
+    let done = stepped(d, r.count);
+    if !asks(reply, SEND) {
+        return Turn {
+            goes_on: false,
+            cpu: e,
+            reply,
+            done,
+            left: rest,
+        };
+    }
+    let done = answer(mem, ground, waypoints, e, v, done);
+    let cpu = after(e, reply);
+    Turn {
+        goes_on: true,
+        cpu,
+        reply,
+        done,
+        left: rest,
+    }
 }
 
 // Plays one pass on the budget. An interrupt that is answered takes one from it.
@@ -156,23 +187,31 @@ pub fn play(
     v: Voice,
 ) -> Passed {
     let mut left = budget;
-    let mut now = c;
+    let mut cpu = c;
     let mut done = Done {
         steps: 0,
         sent: 0,
         bytes: 0,
     };
     while 0 < left {
-        let r = micro32::run(now, mem, left);
-        let q = r.reply;
-        let e = r.cpu;
-        done = stepped(done, r.count);
-        let Request::Send(_) = requested(q) else {
-            return ended(e, q, done);
-        };
-        done = answer(mem, ground, waypoints, e, v, done);
-        now = after(e, q);
-        left = less(left, r.count);
+        let t = take_turn(mem, ground, waypoints, cpu, left, v, done);
+        let now = t.cpu;
+        let sum = t.done;
+        if !t.goes_on {
+            let reply = t.reply;
+            return Passed {
+                cpu: now,
+                reply,
+                done: sum,
+            };
+        }
+        cpu = now;
+        done = sum;
+        left = t.left;
     }
-    ended(now, Reply::Spent, done)
+    Passed {
+        cpu,
+        reply: Reply::Spent,
+        done,
+    }
 }
