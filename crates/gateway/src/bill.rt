@@ -35,11 +35,21 @@ fn slip(n: u32, s: Slip) {
     }
 }
 
-// Makes the edits for a pass, and opens its row with what is due to be sent.
-fn edit(mem: &mut [u8], ground: &[u8], rows: &mut [u32], s: &[u8], p: Plan, pass: u32) {
+// Makes the edits for a pass, opens its row with what is due to be sent, and copies memory. False where there is no room for that.
+fn edit(
+    mem: &mut [u8],
+    ground: &[u8],
+    rows: &mut [u32],
+    copies: &mut [u8],
+    slots: &mut [u32],
+    s: &[u8],
+    p: Plan,
+    pass: u32,
+) -> bool {
     let a = waypoints::apply(s, pass, mem, p);
     let changed = waypoints::differing(mem, p, ground);
     account::open(rows, pass, a.edits, a.jitters, changed);
+    frames::remember(mem, copies, slots)
 }
 
 // Plays one pass, with an audit before and after, and closes its row.
@@ -92,6 +102,39 @@ struct Next {
     cpu: Cpu,
 }
 
+fn end_here(cpu: Cpu) -> Next {
+    Next {
+        goes_on: false,
+        cpu,
+    }
+}
+
+// Plays one pass, and tells what came of it.
+fn play_and_tell(
+    mem: &mut [u8],
+    ground: &mut [u8],
+    rows: &mut [u32],
+    copies: &[u8],
+    slots: &[u32],
+    p: Plan,
+    c: Cpu,
+    o: Order,
+    pass: u32,
+) -> Next {
+    let r = play(mem, ground, rows, copies, slots, p, c, o, pass);
+    tell(rows, r, pass, o.plain);
+    let q = r.reply;
+    let e = r.cpu;
+    if !pass::is_end(q) {
+        stopped(mem, rows, copies, slots, r, pass, o.plain);
+        return end_here(e);
+    }
+    Next {
+        goes_on: true,
+        cpu: pass::after(e, q),
+    }
+}
+
 // One pass with all that belongs to it.
 fn turn(
     mem: &mut [u8],
@@ -105,30 +148,12 @@ fn turn(
     o: Order,
     pass: u32,
 ) -> Next {
-    edit(mem, ground, rows, s, p, pass);
-    if !frames::remember(mem, copies, slots) {
+    if !edit(mem, ground, rows, copies, slots, s, p, pass) {
         run::complain_of_frames();
-        return Next {
-            goes_on: false,
-            cpu: c,
-        };
+        return end_here(c);
     }
     account::begin(rows, pass, o.plain);
-    let r = play(mem, ground, rows, copies, slots, p, c, o, pass);
-    tell(rows, r, pass, o.plain);
-    let q = r.reply;
-    let e = r.cpu;
-    if !pass::is_end(q) {
-        stopped(mem, rows, copies, slots, r, pass, o.plain);
-        return Next {
-            goes_on: false,
-            cpu: e,
-        };
-    }
-    Next {
-        goes_on: true,
-        cpu: pass::after(e, q),
-    }
+    play_and_tell(mem, ground, rows, copies, slots, p, c, o, pass)
 }
 
 // All passes, or up to the first that the guest does not end by itself.
