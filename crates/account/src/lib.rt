@@ -29,7 +29,7 @@ pub fn work(rows: &mut [u32], pass: u32, sent: u32, bytes: u32, steps: u32) {
 pub fn close(rows: &mut [u32], pass: u32, t: Tally, before: u32, after: u32) {
     put(rows, pass, table::OWN, t.own);
     put(rows, pass, table::MARKS, t.marks);
-    put(rows, pass, table::NEITHER, t.neither);
+    put(rows, pass, table::OTHER, t.other);
     put(rows, pass, table::BEFORE, before);
     put(rows, pass, table::AFTER, after);
 }
@@ -51,8 +51,7 @@ pub fn begin(rows: &[u32], pass: u32, plain: bool) {
     say(STDOUT_FILENO, b"pass ");
     text::decimal(STDOUT_FILENO, pass);
     say(STDOUT_FILENO, b": ");
-    text::decimal(STDOUT_FILENO, table::get(rows, pass, table::EDITS));
-    say(STDOUT_FILENO, b" edits");
+    text::counted(STDOUT_FILENO, table::get(rows, pass, table::EDITS), b" edit");
     told_jitters(table::get(rows, pass, table::JITTERS));
 }
 

@@ -11,7 +11,7 @@ pub const BYTES: u32 = 4;
 pub const STEPS: u32 = 5;
 pub const OWN: u32 = 6;
 pub const MARKS: u32 = 7;
-pub const NEITHER: u32 = 8;
+pub const OTHER: u32 = 8;
 pub const BEFORE: u32 = 9;
 pub const AFTER: u32 = 10;
 
@@ -49,7 +49,7 @@ fn width(column: u32) -> u32 {
         STEPS => 8,
         OWN => 6,
         MARKS => 7,
-        _ => 9,
+        _ => 7,
     }
 }
 
@@ -63,7 +63,7 @@ fn key(column: u32) {
         STEPS => say(STDOUT_FILENO, b"steps="),
         OWN => say(STDOUT_FILENO, b"frames.own="),
         MARKS => say(STDOUT_FILENO, b"frames.marks="),
-        NEITHER => say(STDOUT_FILENO, b"frames.neither="),
+        OTHER => say(STDOUT_FILENO, b"frames.other="),
         BEFORE => say(STDOUT_FILENO, b"audit_before="),
         _ => say(STDOUT_FILENO, b"audit_after="),
     }
@@ -100,7 +100,7 @@ fn row(rows: &[u32], pass: u32) {
 pub fn print(rows: &[u32], last: u32) {
     say(
         STDOUT_FILENO,
-        b"\n                                                    frames changed\npass  edits  jitter  changed  sent  bytes   steps   own  marks  neither  audit before, after\n",
+        b"\n                                                    frames changed\npass  edits  jitter  changed  sent  bytes   steps   own  marks  other  audit before, after\n",
     );
     let mut pass: u32 = 0;
     while pass < last {

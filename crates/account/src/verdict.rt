@@ -5,10 +5,9 @@ use text::decimal;
 use text::say;
 
 fn amount(waypoints: u32, bytes: u32) {
-    decimal(STDOUT_FILENO, waypoints);
-    say(STDOUT_FILENO, b" waypoints, ");
-    decimal(STDOUT_FILENO, bytes);
-    say(STDOUT_FILENO, b" bytes");
+    text::counted(STDOUT_FILENO, waypoints, b" waypoint");
+    say(STDOUT_FILENO, b", ");
+    text::counted(STDOUT_FILENO, bytes, b" byte");
 }
 
 // The whole plan was sent although nothing changed.
@@ -26,8 +25,8 @@ fn warn_of_waste(rows: &[u32], pass: u32, sent: u32) {
 
 fn warn_of_difference(sent: u32, changed: u32) {
     say(STDOUT_FILENO, b" sent ");
-    decimal(STDOUT_FILENO, sent);
-    say(STDOUT_FILENO, b" waypoints where ");
+    text::counted(STDOUT_FILENO, sent, b" waypoint");
+    say(STDOUT_FILENO, b" where ");
     decimal(STDOUT_FILENO, changed);
     say(STDOUT_FILENO, b" had changed");
 }

@@ -11,15 +11,17 @@ pub use maps::is_users;
 
 use machine::Control;
 
-// A changed frame: the user's own, by the maps; a directory or table with accessed and dirty marks set; or neither.
+// A changed frame: the user's own, by the maps; a directory or table with accessed and dirty marks set; one that the kernel wrote, whom
+// the maps need not bind; or none of these.
 pub enum Kind {
     Same,
     Own,
     Marks,
+    Kernel,
     Neither,
 }
 
-// What became of frame f. With paging off, and for ring 0, the maps bind nobody, so that no frame is the user's own.
+// What became of frame f.
 pub fn kind_of(mem: &[u8], c: Control, copies: &[u8], slots: &[u32], f: u32) -> Kind {
     let change = change_of(mem, copies, slots, f);
     if let Change::Nothing = change {
@@ -30,7 +32,10 @@ pub fn kind_of(mem: &[u8], c: Control, copies: &[u8], slots: &[u32], f: u32) -> 
             return Kind::Marks;
         }
     }
-    if (c.ring == 3) & (c.cr0 / 2147483648 % 2 == 1) {
+    if c.ring == 0 {
+        return Kind::Kernel;
+    }
+    if c.cr0 / 2147483648 % 2 == 1 {
         if is_users(mem, c, f) {
             return Kind::Own;
         }

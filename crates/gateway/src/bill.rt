@@ -8,10 +8,8 @@ use crate::run;
 use given::Listed;
 use given::Slip;
 use journal::Voice;
-use libc::STDOUT_FILENO;
 use machine::Cpu;
 use pass::Passed;
-use text::say;
 use waypoints::Found;
 use waypoints::Plan;
 
@@ -75,23 +73,20 @@ fn play(
     r
 }
 
-fn tell(rows: &[u32], r: Passed, pass: u32, plain: bool) {
+fn tell(mem: &[u8], rows: &[u32], r: Passed, pass: u32, plain: bool) {
     account::end(rows, pass, plain);
-    if plain {
-        let q = r.reply;
-        journal::reply_lines(b"reply", q);
-    }
+    let c = r.cpu;
+    let q = r.reply;
+    run::reply(mem, c, q, plain);
 }
 
 // A pass that the guest did not end by itself: why, and whether the kernel's records were touched.
 fn stopped(mem: &[u8], rows: &[u32], copies: &[u8], slots: &[u32], r: Passed, pass: u32, plain: bool) {
     if !plain {
         account::break_off(rows, pass);
-        say(STDOUT_FILENO, b"  reply         ");
         let c = r.cpu;
         let q = r.reply;
-        journal::explained(mem, c.control, q);
-        text::end(STDOUT_FILENO);
+        run::reply(mem, c, q, plain);
     }
     run::records(mem, copies, slots, plain);
 }
@@ -122,7 +117,7 @@ fn play_and_tell(
     pass: u32,
 ) -> Next {
     let r = play(mem, ground, rows, copies, slots, p, c, o, pass);
-    tell(rows, r, pass, o.plain);
+    tell(mem, rows, r, pass, o.plain);
     let q = r.reply;
     let e = r.cpu;
     if !pass::is_end(q) {

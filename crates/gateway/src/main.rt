@@ -15,7 +15,7 @@ fn help() {
     );
     text::say(
         STDOUT_FILENO,
-        b"gateway bill IMAGE LOAD RECORD BUDGET SIZE EDITS [--plain]\n  a pass before and after each group of edits, and what they cost\n",
+        b"gateway bill IMAGE LOAD RECORD BUDGET SIZE EDITS [--plain]\n  passes with edits in between, and what they cost\n",
     );
     text::say(
         STDOUT_FILENO,

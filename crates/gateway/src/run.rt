@@ -22,7 +22,8 @@ fn label(words: &[u8]) {
     text::say(STDOUT_FILENO, words);
 }
 
-fn audit(mem: &[u8], c: Cpu, q: Reply, plain: bool, key: &[u8], words: &[u8]) {
+// A reply under its label, or under its key.
+fn answer(mem: &[u8], c: Cpu, q: Reply, plain: bool, key: &[u8], words: &[u8]) {
     if plain {
         journal::reply_lines(key, q);
         return;
@@ -30,6 +31,11 @@ fn audit(mem: &[u8], c: Cpu, q: Reply, plain: bool, key: &[u8], words: &[u8]) {
     label(words);
     journal::explained(mem, c.control, q);
     text::end(STDOUT_FILENO);
+}
+
+// What ended a pass.
+pub fn reply(mem: &[u8], c: Cpu, q: Reply, plain: bool) {
+    answer(mem, c, q, plain, b"reply", b"  reply         ");
 }
 
 fn work(d: Done, plain: bool) {
@@ -40,10 +46,10 @@ fn work(d: Done, plain: bool) {
         return;
     }
     label(b"  sent          ");
-    text::decimal(STDOUT_FILENO, d.sent);
-    label(b" waypoints, ");
-    text::decimal(STDOUT_FILENO, d.bytes);
-    label(b" bytes\n  steps Done    ");
+    text::counted(STDOUT_FILENO, d.sent, b" waypoint");
+    label(b", ");
+    text::counted(STDOUT_FILENO, d.bytes, b" byte");
+    label(b"\n  steps Done    ");
     text::decimal(STDOUT_FILENO, d.steps);
     text::end(STDOUT_FILENO);
 }
@@ -52,7 +58,7 @@ fn tally(t: Tally, plain: bool) {
     if plain {
         text::count_line(STDOUT_FILENO, b"frames.own", t.own);
         text::count_line(STDOUT_FILENO, b"frames.marks", t.marks);
-        text::count_line(STDOUT_FILENO, b"frames.neither", t.neither);
+        text::count_line(STDOUT_FILENO, b"frames.other", t.other);
         return;
     }
     label(b"  frames        ");
@@ -60,19 +66,16 @@ fn tally(t: Tally, plain: bool) {
     label(b" the user's own, ");
     text::decimal(STDOUT_FILENO, t.marks);
     label(b" marks alone, ");
-    text::decimal(STDOUT_FILENO, t.neither);
-    label(b" neither\n");
+    text::decimal(STDOUT_FILENO, t.other);
+    label(b" other\n");
 }
 
 pub fn voice(plain: bool) -> Voice {
     if plain { Voice::Plain } else { Voice::Words }
 }
 
-// Are the kernel's records, if there are any, as they were before the pass?
+// Are the kernel's records as they were before the pass?
 pub fn records(mem: &[u8], copies: &[u8], slots: &[u32], plain: bool) {
-    if !waypoints::has_records(mem) {
-        return;
-    }
     let same = frames::is_same(mem, copies, slots, waypoints::RECORDS / 4096);
     if plain {
         text::count_line(STDOUT_FILENO, b"records.untouched", if same { 1 } else { 0 });
@@ -87,8 +90,8 @@ fn report(mem: &[u8], copies: &[u8], slots: &[u32], p: Passed, plain: bool) {
     let c = p.cpu;
     let q = p.reply;
     work(p.done, plain);
-    audit(mem, c, q, plain, b"reply", b"  reply         ");
-    audit(mem, c, micro32::audit(c, mem), plain, b"audit_after", b"  audit after   ");
+    reply(mem, c, q, plain);
+    answer(mem, c, micro32::audit(c, mem), plain, b"audit_after", b"  audit after   ");
     if plain {
         journal::cpu_lines(c);
     } else {
@@ -96,7 +99,6 @@ fn report(mem: &[u8], copies: &[u8], slots: &[u32], p: Passed, plain: bool) {
     }
     let t = journal::frames(voice(plain), mem, c.control, copies, slots);
     tally(t, plain);
-    records(mem, copies, slots, plain);
 }
 
 fn heading(o: Order, bytes: u32) {
@@ -110,17 +112,21 @@ fn heading(o: Order, bytes: u32) {
     text::hex(STDOUT_FILENO, o.load);
     label(b" in a memory of ");
     text::decimal(STDOUT_FILENO, o.size);
-    label(b", at most ");
+    label(b" bytes, at most ");
     text::decimal(STDOUT_FILENO, o.budget);
     label(b" steps\n");
 }
 
 fn one_pass(mem: &mut [u8], copies: &[u8], slots: &[u32], c: Cpu, o: Order) {
+    let known = waypoints::has_records(mem);
     let q = micro32::audit(c, mem);
-    audit(mem, c, q, o.plain, b"audit_before", b"  audit before  ");
+    answer(mem, c, q, o.plain, b"audit_before", b"  audit before  ");
     let mut none = [0u8; 1];
     let p = pass::play(mem, &mut none, 0, c, o.budget, voice(o.plain));
     report(mem, copies, slots, p, o.plain);
+    if known {
+        records(mem, copies, slots, o.plain);
+    }
 }
 
 // Runs the guest for one pass. Nothing is written before all that was given is found good.

@@ -8,7 +8,7 @@ use text::say;
 pub struct Tally {
     pub own: u32,
     pub marks: u32,
-    pub neither: u32,
+    pub other: u32,
 }
 
 // How a pass is told: to a person, to a script, or not at all.
@@ -41,6 +41,14 @@ fn tell(v: Voice, f: u32, key: &[u8], words: &[u8]) {
     }
 }
 
+fn other(t: Tally) -> Tally {
+    Tally {
+        own: t.own,
+        marks: t.marks,
+        other: plus(t.other),
+    }
+}
+
 // Tells one frame, and counts it.
 fn one(v: Voice, f: u32, k: Kind, t: Tally) -> Tally {
     match k {
@@ -50,7 +58,7 @@ fn one(v: Voice, f: u32, k: Kind, t: Tally) -> Tally {
             Tally {
                 own: plus(t.own),
                 marks: t.marks,
-                neither: t.neither,
+                other: t.other,
             }
         }
         Kind::Marks => {
@@ -58,16 +66,16 @@ fn one(v: Voice, f: u32, k: Kind, t: Tally) -> Tally {
             Tally {
                 own: t.own,
                 marks: plus(t.marks),
-                neither: t.neither,
+                other: t.other,
             }
+        }
+        Kind::Kernel => {
+            tell(v, f, b"kernel", b"the kernel's: written in ring 0");
+            other(t)
         }
         Kind::Neither => {
             tell(v, f, b"neither", b"neither: no page that the user may write leads here");
-            Tally {
-                own: t.own,
-                marks: t.marks,
-                neither: plus(t.neither),
-            }
+            other(t)
         }
     }
 }
@@ -77,7 +85,7 @@ pub fn frames(v: Voice, mem: &[u8], c: Control, copies: &[u8], slots: &[u32]) ->
     let mut t = Tally {
         own: 0,
         marks: 0,
-        neither: 0,
+        other: 0,
     };
     let mut f: u32 = 0;
     while f < 1024 {

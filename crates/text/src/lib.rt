@@ -64,6 +64,15 @@ pub fn column(out: i32, n: u32, width: u32) {
     decimal(out, n);
 }
 
+// n of something, whose name takes an s unless there is one of it.
+pub fn counted(out: i32, n: u32, name: &[u8]) {
+    decimal(out, n);
+    say(out, name);
+    if n != 1 {
+        say(out, b"s");
+    }
+}
+
 // One hexadecimal digit: the last one of n.
 fn digit(n: u32) -> u8 {
     let d = n % 16;
