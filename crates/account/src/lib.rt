@@ -51,7 +51,11 @@ pub fn begin(rows: &[u32], pass: u32, plain: bool) {
     say(STDOUT_FILENO, b"pass ");
     text::decimal(STDOUT_FILENO, pass);
     say(STDOUT_FILENO, b": ");
-    text::counted(STDOUT_FILENO, table::get(rows, pass, table::EDITS), b" edit");
+    text::counted(
+        STDOUT_FILENO,
+        table::get(rows, pass, table::EDITS),
+        b" edit",
+    );
     told_jitters(table::get(rows, pass, table::JITTERS));
 }
 

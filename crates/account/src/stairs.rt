@@ -31,7 +31,10 @@ fn step(rows: &[u32], pass: u32, total: u32) {
 // One step a pass. The last one says whether it is a landing.
 pub fn print(rows: &[u32], last: u32, landed: bool) {
     let total = table::sum(rows, table::SENT, last);
-    say(STDOUT_FILENO, b"\npass   bytes  - paid before  # this pass\n");
+    say(
+        STDOUT_FILENO,
+        b"\npass   bytes  - paid before  # this pass\n",
+    );
     let mut pass: u32 = 0;
     while pass < last {
         pass += 1;

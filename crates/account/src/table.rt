@@ -4,15 +4,25 @@ use text::say;
 
 // The columns of a row, in the order in which they are written.
 pub const EDITS: u32 = 0;
+
 pub const JITTERS: u32 = 1;
+
 pub const CHANGED: u32 = 2;
+
 pub const SENT: u32 = 3;
+
 pub const BYTES: u32 = 4;
+
 pub const STEPS: u32 = 5;
+
 pub const OWN: u32 = 6;
+
 pub const MARKS: u32 = 7;
+
 pub const OTHER: u32 = 8;
+
 pub const BEFORE: u32 = 9;
+
 pub const AFTER: u32 = 10;
 
 fn place(pass: u32, column: u32) -> u32 {

@@ -12,11 +12,15 @@ fn amount(waypoints: u32, bytes: u32) {
 
 // The whole plan was sent although nothing changed.
 fn is_waste(rows: &[u32], pass: u32, waypoints: u32) -> bool {
-    (table::get(rows, pass, table::CHANGED) == 0) & (table::get(rows, pass, table::SENT) == waypoints)
+    (table::get(rows, pass, table::CHANGED) == 0)
+        & (table::get(rows, pass, table::SENT) == waypoints)
 }
 
 fn warn_of_waste(rows: &[u32], pass: u32, sent: u32) {
-    say(STDOUT_FILENO, b" sent the whole plan although nothing changed: ");
+    say(
+        STDOUT_FILENO,
+        b" sent the whole plan although nothing changed: ",
+    );
     amount(sent, table::get(rows, pass, table::BYTES));
     if table::get(rows, pass, table::JITTERS) != 0 {
         say(STDOUT_FILENO, b" for noise in the last bit");
@@ -68,9 +72,15 @@ fn total(rows: &[u32], last: u32) {
 
 fn ground(differing: u32, waypoints: u32) {
     if differing == 0 {
-        say(STDOUT_FILENO, b"the ground's plan agrees with the cabin's in all ");
+        say(
+            STDOUT_FILENO,
+            b"the ground's plan agrees with the cabin's in all ",
+        );
     } else {
-        say(STDOUT_FILENO, b"the ground's plan differs from the cabin's in ");
+        say(
+            STDOUT_FILENO,
+            b"the ground's plan differs from the cabin's in ",
+        );
         decimal(STDOUT_FILENO, differing);
         say(STDOUT_FILENO, b" of ");
     }
@@ -80,8 +90,16 @@ fn ground(differing: u32, waypoints: u32) {
 
 pub fn lines(rows: &[u32], last: u32, differing: u32, landed: bool) {
     text::count_line(STDOUT_FILENO, b"total.passes", last);
-    text::count_line(STDOUT_FILENO, b"total.sent", table::sum(rows, table::SENT, last));
-    text::count_line(STDOUT_FILENO, b"total.bytes", table::sum(rows, table::BYTES, last));
+    text::count_line(
+        STDOUT_FILENO,
+        b"total.sent",
+        table::sum(rows, table::SENT, last),
+    );
+    text::count_line(
+        STDOUT_FILENO,
+        b"total.bytes",
+        table::sum(rows, table::BYTES, last),
+    );
     text::count_line(STDOUT_FILENO, b"ground.differing", differing);
     text::count_line(STDOUT_FILENO, b"landing", if landed { 1 } else { 0 });
 }

@@ -94,11 +94,19 @@ pub fn change_of(mem: &[u8], copies: &[u8], slots: &[u32], f: u32) -> Change {
         }
         i += 1;
     }
-    if marks { Change::Marks } else { Change::Nothing }
+    if marks {
+        Change::Marks
+    } else {
+        Change::Nothing
+    }
 }
 
 // Is frame f as it was?
 pub fn is_same(mem: &[u8], copies: &[u8], slots: &[u32], f: u32) -> bool {
     let change = change_of(mem, copies, slots, f);
-    if let Change::Nothing = change { true } else { false }
+    if let Change::Nothing = change {
+        true
+    } else {
+        false
+    }
 }

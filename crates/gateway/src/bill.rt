@@ -1,5 +1,4 @@
 // Cabin and ground over several passes with edits in between, and what they cost.
-ghost use mathlib.Core.Path.{_≡_};
 use crate::ask;
 use crate::files;
 use crate::order;
@@ -16,20 +15,49 @@ use waypoints::Plan;
 fn no_plan(f: Found) {
     match f {
         Found::Here(_) => {}
-        Found::NoMark => ask::complain(order::IMAGE, b"no plan: the dword at 00004000 is not the mark PLAN"),
-        Found::Count(_) => ask::complain(order::IMAGE, b"no plan: the records name no number of waypoints from 1 to 4096"),
-        Found::Outside(_) => ask::complain(order::IMAGE, b"no plan: the records name a place past the end of memory"),
+        Found::NoMark => ask::complain(
+            order::IMAGE,
+            b"no plan: the dword at 00004000 is not the mark PLAN",
+        ),
+        Found::Count(_) => ask::complain(
+            order::IMAGE,
+            b"no plan: the records name no number of waypoints from 1 to 4096",
+        ),
+        Found::Outside(_) => ask::complain(
+            order::IMAGE,
+            b"no plan: the records name a place past the end of memory",
+        ),
     }
 }
 
 fn slip(n: u32, s: Slip) {
     match s {
-        Slip::Pass => ask::complain_of_line(order::EDITS, n, b"a line begins with a pass from 1 to 63"),
-        Slip::Waypoint => ask::complain_of_line(order::EDITS, n, b"after the pass stands jitter or a waypoint of the plan"),
-        Slip::Axis => ask::complain_of_line(order::EDITS, n, b"after the waypoint stands lat or lon"),
-        Slip::Delta => ask::complain_of_line(order::EDITS, n, b"the change is a decimal number up to 4294967295, with or without a sign"),
+        Slip::Pass => ask::complain_of_line(
+            order::EDITS,
+            n,
+            b"a line begins with a pass from 1 to 63",
+        ),
+        Slip::Waypoint => ask::complain_of_line(
+            order::EDITS,
+            n,
+            b"after the pass stands jitter or a waypoint of the plan",
+        ),
+        Slip::Axis => ask::complain_of_line(
+            order::EDITS,
+            n,
+            b"after the waypoint stands lat or lon",
+        ),
+        Slip::Delta => ask::complain_of_line(
+            order::EDITS,
+            n,
+            b"the change is a decimal number up to 4294967295, with or without a sign",
+        ),
         Slip::Jitter => ask::complain_of_line(order::EDITS, n, b"jitter is -1 or 1"),
-        Slip::MoreAfter => ask::complain_of_line(order::EDITS, n, b"there is more after the change"),
+        Slip::MoreAfter => ask::complain_of_line(
+            order::EDITS,
+            n,
+            b"there is more after the change",
+        ),
     }
 }
 
@@ -63,7 +91,14 @@ fn play(
     pass: u32,
 ) -> Passed {
     let before = journal::number(micro32::audit(c, mem));
-    let r = pass::play(mem, ground, p.waypoints, c, o.budget, run::voice(o.plain));
+    let r = pass::play(
+        mem,
+        ground,
+        p.waypoints,
+        c,
+        o.budget,
+        report::voice(o.plain),
+    );
     let e = r.cpu;
     let after = journal::number(micro32::audit(e, mem));
     let t = journal::frames(Voice::Silent, mem, e.control, copies, slots);
@@ -77,18 +112,26 @@ fn tell(mem: &[u8], rows: &[u32], r: Passed, pass: u32, plain: bool) {
     account::end(rows, pass, plain);
     let c = r.cpu;
     let q = r.reply;
-    run::reply(mem, c, q, plain);
+    report::reply(mem, c, q, plain);
 }
 
 // A pass that the guest did not end by itself: why, and whether the kernel's records were touched.
-fn stopped(mem: &[u8], rows: &[u32], copies: &[u8], slots: &[u32], r: Passed, pass: u32, plain: bool) {
+fn stopped(
+    mem: &[u8],
+    rows: &[u32],
+    copies: &[u8],
+    slots: &[u32],
+    r: Passed,
+    pass: u32,
+    plain: bool,
+) {
     if !plain {
         account::break_off(rows, pass);
         let c = r.cpu;
         let q = r.reply;
-        run::reply(mem, c, q, plain);
+        report::reply(mem, c, q, plain);
     }
-    run::records(mem, copies, slots, plain);
+    report::records(mem, copies, slots, plain);
 }
 
 // Whether there is a next pass, and the record that it begins with.
@@ -185,7 +228,18 @@ fn begin(mem: &mut [u8], copies: &mut [u8], s: &[u8], p: Plan, c: Cpu, o: Order,
     let mut rows = [0u32; account::ROOM];
     let mut slots = [0u32; run::FRAMES];
     waypoints::seed(mem, p, &mut ground);
-    passes(mem, &mut ground, &mut rows, copies, &mut slots, s, p, c, o, last);
+    passes(
+        mem,
+        &mut ground,
+        &mut rows,
+        copies,
+        &mut slots,
+        s,
+        p,
+        c,
+        o,
+        last,
+    );
 }
 
 // The plan and the edits must both be good before anything is run.

@@ -56,11 +56,27 @@ fn load(mem: &mut [u8], at: usize) -> usize {
 fn flaw(n: u32, f: Flaw) {
     match f {
         Flaw::Nothing => {}
-        Flaw::UnknownName => ask::complain_of_line(order::RECORD, n, b"no such name; there are EAX ECX EDX EBX ESP EBP ESI EDI EIP EFLAGS CR0 CR2 CR3 RING"),
-        Flaw::NamedTwice => ask::complain_of_line(order::RECORD, n, b"this name has a value already"),
+        Flaw::UnknownName => ask::complain_of_line(
+            order::RECORD,
+            n,
+            b"no such name; there are EAX ECX EDX EBX ESP EBP ESI EDI EIP EFLAGS CR0 CR2 CR3 RING",
+        ),
+        Flaw::NamedTwice => ask::complain_of_line(
+            order::RECORD,
+            n,
+            b"this name has a value already",
+        ),
         Flaw::NoValue => ask::complain_of_line(order::RECORD, n, b"the name has no value"),
-        Flaw::BadValue => ask::complain_of_line(order::RECORD, n, b"the value is not one to eight hexadecimal digits"),
-        Flaw::MoreAfter => ask::complain_of_line(order::RECORD, n, b"there is more after the value"),
+        Flaw::BadValue => ask::complain_of_line(
+            order::RECORD,
+            n,
+            b"the value is not one to eight hexadecimal digits",
+        ),
+        Flaw::MoreAfter => ask::complain_of_line(
+            order::RECORD,
+            n,
+            b"there is more after the value",
+        ),
     }
 }
 

@@ -17,10 +17,15 @@ pub enum Asked {
 
 // Where each argument stands.
 pub const IMAGE: usize = 2;
+
 pub const LOAD: usize = 3;
+
 pub const RECORD: usize = 4;
+
 pub const BUDGET: usize = 5;
+
 pub const SIZE: usize = 6;
+
 pub const EDITS: usize = 7;
 
 const LARGEST: u32 = 4194304;
@@ -36,16 +41,28 @@ fn refused(i: usize, words: &[u8]) -> Asked {
 
 fn numbers(plain: bool) -> Asked {
     let Number::Value(load) = ask::number(LOAD) else {
-        return refused(LOAD, b"the load address is no number (decimal, or hexadecimal with 0x)");
+        return refused(
+            LOAD,
+            b"the load address is no number (decimal, or hexadecimal with 0x)",
+        );
     };
     let Number::Value(budget) = ask::number(BUDGET) else {
-        return refused(BUDGET, b"the budget is no number (decimal, or hexadecimal with 0x)");
+        return refused(
+            BUDGET,
+            b"the budget is no number (decimal, or hexadecimal with 0x)",
+        );
     };
     let Number::Value(size) = ask::number(SIZE) else {
-        return refused(SIZE, b"the size of memory is no number (decimal, or hexadecimal with 0x)");
+        return refused(
+            SIZE,
+            b"the size of memory is no number (decimal, or hexadecimal with 0x)",
+        );
     };
     if !is_size(size) {
-        return refused(SIZE, b"the size of memory is a multiple of 4096, from 4096 to 4194304");
+        return refused(
+            SIZE,
+            b"the size of memory is a multiple of 4096, from 4096 to 4194304",
+        );
     }
     if size <= load {
         return refused(LOAD, b"the load address lies past the end of memory");
@@ -76,7 +93,9 @@ pub fn read(bill: bool) -> Asked {
         return numbers(true);
     }
     if bill {
-        ask::complain_at_all(b"bill takes IMAGE LOAD RECORD BUDGET SIZE EDITS, and --plain if wanted");
+        ask::complain_at_all(
+            b"bill takes IMAGE LOAD RECORD BUDGET SIZE EDITS, and --plain if wanted",
+        );
     } else {
         ask::complain_at_all(b"run takes IMAGE LOAD RECORD BUDGET SIZE, and --plain if wanted");
     }

@@ -1,15 +1,8 @@
 // One pass, and the log of it.
 use crate::ask;
 use crate::files;
-use crate::order;
 use crate::order::Order;
-use journal::Tally;
-use journal::Voice;
-use libc::STDOUT_FILENO;
 use machine::Cpu;
-use machine::Reply;
-use pass::Done;
-use pass::Passed;
 
 // The frames of memory, and what is said where copies of them do not fit.
 pub const FRAMES: usize = 1024;
@@ -18,114 +11,14 @@ pub fn complain_of_frames() {
     ask::complain_at_all(b"more than 960 frames of memory are not blank; give a smaller memory");
 }
 
-fn label(words: &[u8]) {
-    text::say(STDOUT_FILENO, words);
-}
-
-// A reply under its label, or under its key.
-fn answer(mem: &[u8], c: Cpu, q: Reply, plain: bool, key: &[u8], words: &[u8]) {
-    if plain {
-        journal::reply_lines(key, q);
-        return;
-    }
-    label(words);
-    journal::explained(mem, c.control, q);
-    text::end(STDOUT_FILENO);
-}
-
-// What ended a pass.
-pub fn reply(mem: &[u8], c: Cpu, q: Reply, plain: bool) {
-    answer(mem, c, q, plain, b"reply", b"  reply         ");
-}
-
-fn work(d: Done, plain: bool) {
-    if plain {
-        text::count_line(STDOUT_FILENO, b"sent", d.sent);
-        text::count_line(STDOUT_FILENO, b"bytes", d.bytes);
-        text::count_line(STDOUT_FILENO, b"steps", d.steps);
-        return;
-    }
-    label(b"  sent          ");
-    text::counted(STDOUT_FILENO, d.sent, b" waypoint");
-    label(b", ");
-    text::counted(STDOUT_FILENO, d.bytes, b" byte");
-    label(b"\n  steps Done    ");
-    text::decimal(STDOUT_FILENO, d.steps);
-    text::end(STDOUT_FILENO);
-}
-
-fn tally(t: Tally, plain: bool) {
-    if plain {
-        text::count_line(STDOUT_FILENO, b"frames.own", t.own);
-        text::count_line(STDOUT_FILENO, b"frames.marks", t.marks);
-        text::count_line(STDOUT_FILENO, b"frames.other", t.other);
-        return;
-    }
-    label(b"  frames        ");
-    text::decimal(STDOUT_FILENO, t.own);
-    label(b" the user's own, ");
-    text::decimal(STDOUT_FILENO, t.marks);
-    label(b" marks alone, ");
-    text::decimal(STDOUT_FILENO, t.other);
-    label(b" other\n");
-}
-
-pub fn voice(plain: bool) -> Voice {
-    if plain { Voice::Plain } else { Voice::Words }
-}
-
-// Are the kernel's records as they were before the pass?
-pub fn records(mem: &[u8], copies: &[u8], slots: &[u32], plain: bool) {
-    let same = frames::is_same(mem, copies, slots, waypoints::RECORDS / 4096);
-    if plain {
-        text::count_line(STDOUT_FILENO, b"records.untouched", if same { 1 } else { 0 });
-    } else if same {
-        label(b"  records       the kernel's records at 00004000 are untouched\n");
-    } else {
-        label(b"  records       the kernel's records at 00004000 were CHANGED\n");
-    }
-}
-
-fn report(mem: &[u8], copies: &[u8], slots: &[u32], p: Passed, plain: bool) {
-    let c = p.cpu;
-    let q = p.reply;
-    work(p.done, plain);
-    reply(mem, c, q, plain);
-    answer(mem, c, micro32::audit(c, mem), plain, b"audit_after", b"  audit after   ");
-    if plain {
-        journal::cpu_lines(c);
-    } else {
-        journal::cpu_table(c);
-    }
-    let t = journal::frames(voice(plain), mem, c.control, copies, slots);
-    tally(t, plain);
-}
-
-fn heading(o: Order, bytes: u32) {
-    if o.plain {
-        text::count_line(STDOUT_FILENO, b"pass", 1);
-        return;
-    }
-    label(b"pass 1: ");
-    text::decimal(STDOUT_FILENO, bytes);
-    label(b" bytes at ");
-    text::hex(STDOUT_FILENO, o.load);
-    label(b" in a memory of ");
-    text::decimal(STDOUT_FILENO, o.size);
-    label(b" bytes, at most ");
-    text::decimal(STDOUT_FILENO, o.budget);
-    label(b" steps\n");
-}
-
 fn one_pass(mem: &mut [u8], copies: &[u8], slots: &[u32], c: Cpu, o: Order) {
     let known = waypoints::has_records(mem);
-    let q = micro32::audit(c, mem);
-    answer(mem, c, q, o.plain, b"audit_before", b"  audit before  ");
+    report::before(mem, c, o.plain);
     let mut none = [0u8; 1];
-    let p = pass::play(mem, &mut none, 0, c, o.budget, voice(o.plain));
-    report(mem, copies, slots, p, o.plain);
+    let p = pass::play(mem, &mut none, 0, c, o.budget, report::voice(o.plain));
+    report::after(mem, copies, slots, p, o.plain);
     if known {
-        records(mem, copies, slots, o.plain);
+        report::records(mem, copies, slots, o.plain);
     }
 }
 
@@ -140,7 +33,7 @@ pub fn run(mem: &mut [u8], copies: &mut [u8], o: Order) {
         complain_of_frames();
         return;
     }
-    heading(o, r.bytes);
+    report::heading(r.bytes, o.load, o.size, o.budget, o.plain);
     let c = r.cpu;
     one_pass(mem, copies, &slots, c, o);
 }

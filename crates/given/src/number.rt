@@ -1,6 +1,5 @@
 // Numbers of 32 bits, in decimal or hexadecimal.
 ghost use Prim.Native.Nat.{_*_, _≤_};
-ghost use lib.ListN.{length};
 use crate::words::Word;
 
 pub enum Number {

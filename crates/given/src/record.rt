@@ -1,13 +1,11 @@
 // A record as text: a name and a hexadecimal value a line; what is not named is 0.
-ghost use mathlib.Core.Path.{_≡_};
-ghost use lib.ListN.{length};
-use machine::Control;
-use machine::Cpu;
-use machine::Registers;
 use crate::number::Number;
 use crate::number::number_at;
 use crate::words;
 use crate::words::Word;
+use machine::Control;
+use machine::Cpu;
+use machine::Registers;
 
 // What is wrong with a line.
 pub enum Flaw {

@@ -10,7 +10,9 @@ pub struct Word {
 
 // What `past` goes over.
 const BLANKS: u32 = 0;
+
 const SIGNS: u32 = 1;
+
 const LINE: u32 = 2;
 
 fn is_blank(b: u8) -> bool {

@@ -60,7 +60,9 @@ fn fault(mem: &[u8], c: Control, vector: u32, code: u32, linear: u32) {
     match vector {
         0 => say(b"divide error: by zero, or a quotient that does not fit"),
         6 => say(b"undefined instruction"),
-        13 => say(b"protection: an instruction that this ring may not use, or one of more than 15 bytes"),
+        13 => say(
+            b"protection: an instruction that this ring may not use, or one of more than 15 bytes",
+        ),
         14 => page_fault(mem, c, code, linear),
         _ => say(b"a vector that the machine never gives"),
     }
@@ -98,14 +100,26 @@ fn meaning(mem: &[u8], c: Control, q: Reply) {
         Reply::Done => say(b"carried out"),
         Reply::Fault(vector, code, linear) => fault(mem, c, vector, code, linear),
         Reply::Trap(vector, next) => trap(vector, next),
-        Reply::Halt(next) => address(b"the kernel stopped the machine; it would go on at ", next, b""),
+        Reply::Halt(next) => address(
+            b"the kernel stopped the machine; it would go on at ",
+            next,
+            b"",
+        ),
         Reply::BadRecord => say(b"the record or the size of memory breaks a rule"),
         Reply::NoMemory(at) => address(b"physical address ", at, b" lies past the end of memory"),
-        Reply::NotBuilt(eip) => address(b"the instruction at ", eip, b" is not one that this machine has"),
+        Reply::NotBuilt(eip) => address(
+            b"the instruction at ",
+            eip,
+            b" is not one that this machine has",
+        ),
         Reply::Spent => say(b"the budget of steps is used up"),
         Reply::Safe => say(b"the user cannot write the page directory or a page table"),
         Reply::TableOutside(index) => table_outside(index),
-        Reply::Exposed(linear) => address(b"page ", linear, b" lets the user write the page directory or a page table"),
+        Reply::Exposed(linear) => address(
+            b"page ",
+            linear,
+            b" lets the user write the page directory or a page table",
+        ),
     }
 }
 

@@ -41,6 +41,23 @@ fn tell(v: Voice, f: u32, key: &[u8], words: &[u8]) {
     }
 }
 
+// The counts with one more of a kind.
+fn own(t: Tally) -> Tally {
+    Tally {
+        own: plus(t.own),
+        marks: t.marks,
+        other: t.other,
+    }
+}
+
+fn marks(t: Tally) -> Tally {
+    Tally {
+        own: t.own,
+        marks: plus(t.marks),
+        other: t.other,
+    }
+}
+
 fn other(t: Tally) -> Tally {
     Tally {
         own: t.own,
@@ -54,27 +71,34 @@ fn one(v: Voice, f: u32, k: Kind, t: Tally) -> Tally {
     match k {
         Kind::Same => t,
         Kind::Own => {
-            tell(v, f, b"own", b"the user's own: a page that its maps let it write");
-            Tally {
-                own: plus(t.own),
-                marks: t.marks,
-                other: t.other,
-            }
+            tell(
+                v,
+                f,
+                b"own",
+                b"the user's own: a page that its maps let it write",
+            );
+            own(t)
         }
         Kind::Marks => {
-            tell(v, f, b"marks", b"accessed and dirty marks alone, in the directory or a table");
-            Tally {
-                own: t.own,
-                marks: plus(t.marks),
-                other: t.other,
-            }
+            tell(
+                v,
+                f,
+                b"marks",
+                b"accessed and dirty marks alone, in the directory or a table",
+            );
+            marks(t)
         }
         Kind::Kernel => {
             tell(v, f, b"kernel", b"the kernel's: written in ring 0");
             other(t)
         }
         Kind::Neither => {
-            tell(v, f, b"neither", b"neither: no page that the user may write leads here");
+            tell(
+                v,
+                f,
+                b"neither",
+                b"neither: no page that the user may write leads here",
+            );
             other(t)
         }
     }

@@ -5,9 +5,9 @@ mod record;
 mod reply;
 
 pub use explain::explained;
-pub use frame::frames;
 pub use frame::Tally;
 pub use frame::Voice;
+pub use frame::frames;
 pub use record::cpu_lines;
 pub use record::cpu_table;
 pub use record::unsound;

@@ -1,4 +1,6 @@
 // The record by name, and which of its rules a record breaks.
+ghost use mathlib.Core.Path.{_≡_};
+ghost use Rattle.machine.specs.Record.{ringSound, cr0Sound, cr3Sound};
 use libc::STDOUT_FILENO;
 use machine::Cpu;
 use text::say;
@@ -120,11 +122,21 @@ fn broken(out: i32, name: &[u8], x: u32, rule: &[u8]) {
     say(out, rule);
 }
 
-fn is_cr0_sound(x: u32) -> bool {
+fn is_ring_sound(x: u32) -> bool
+    ensures { λ r. ⌜ r ≡ ringSound x ⌝ }
+{
+    (x == 0) | (x == 3)
+}
+
+fn is_cr0_sound(x: u32) -> bool
+    ensures { λ r. ⌜ r ≡ cr0Sound x ⌝ }
+{
     (x % 2 == 1) & (x / 2 % 8 == 0) & (x / 32 % 2048 == 0) & (x / 131072 % 16384 == 0)
 }
 
-fn is_cr3_sound(x: u32) -> bool {
+fn is_cr3_sound(x: u32) -> bool
+    ensures { λ r. ⌜ r ≡ cr3Sound x ⌝ }
+{
     (x % 8 == 0) & (x / 32 % 128 == 0)
 }
 
@@ -132,7 +144,7 @@ fn is_cr3_sound(x: u32) -> bool {
 pub fn unsound(out: i32, c: Cpu) {
     let k = c.control;
     let e = c.eflags;
-    if (k.ring != 0) & (k.ring != 3) {
+    if !is_ring_sound(k.ring) {
         broken(out, b"RING", k.ring, b"; it must be 0 or 3");
         return;
     }
@@ -141,16 +153,31 @@ pub fn unsound(out: i32, c: Cpu) {
         return;
     }
     if !is_cr0_sound(k.cr0) {
-        broken(out, b"CR0", k.cr0, b"; besides bit 0 only bits 4, 16 (WP) and 31 (PG) may be set");
+        broken(
+            out,
+            b"CR0",
+            k.cr0,
+            b"; besides bit 0 only bits 4, 16 (WP) and 31 (PG) may be set",
+        );
         return;
     }
     if !is_cr3_sound(k.cr3) {
-        broken(out, b"CR3", k.cr3, b"; its bits 0 to 2 and 5 to 11 must be clear");
+        broken(
+            out,
+            b"CR3",
+            k.cr3,
+            b"; its bits 0 to 2 and 5 to 11 must be clear",
+        );
         return;
     }
     if e / 2 % 2 == 0 {
         broken(out, b"EFLAGS", e, b"; its bit 1 must be set");
         return;
     }
-    broken(out, b"EFLAGS", e, b"; besides bit 1 only bits 0, 2, 4, 6, 7 and 9 to 13 may be set");
+    broken(
+        out,
+        b"EFLAGS",
+        e,
+        b"; besides bit 1 only bits 0, 2, 4, 6, 7 and 9 to 13 may be set",
+    );
 }

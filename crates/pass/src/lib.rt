@@ -7,6 +7,7 @@ use machine::Reply;
 
 // The interrupts: a waypoint to send, and the end of a pass.
 const SEND: u32 = 48;
+
 const END: u32 = 49;
 
 // What a pass has done so far.
@@ -94,7 +95,10 @@ fn tell_refused(v: Voice, waypoint: u32) {
         Voice::Words => {
             text::say(STDOUT_FILENO, b"  waypoint ");
             text::decimal(STDOUT_FILENO, waypoint);
-            text::say(STDOUT_FILENO, b": not taken; the plan has no such waypoint, or its 16 bytes cannot be read\n");
+            text::say(
+                STDOUT_FILENO,
+                b": not taken; the plan has no such waypoint, or its 16 bytes cannot be read\n",
+            );
         }
         Voice::Plain => text::count_line(STDOUT_FILENO, b"waypoint.refused", waypoint),
         Voice::Silent => {}

@@ -1,7 +1,7 @@
 // The ground's own plan: what was sent, and nothing else.
 use crate::place;
-use crate::place::position;
 use crate::place::Plan;
+use crate::place::position;
 use machine::Control;
 use paging::Linear;
 use paging::Translated;

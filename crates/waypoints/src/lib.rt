@@ -2,17 +2,16 @@
 mod ground;
 mod place;
 
+use given::Edit;
+use given::Line;
 pub use ground::differing;
 pub use ground::receive;
 pub use ground::seed;
-pub use place::find;
-pub use place::has_records;
 pub use place::Found;
 pub use place::Plan;
 pub use place::RECORDS;
-
-use given::Edit;
-use given::Line;
+pub use place::find;
+pub use place::has_records;
 use place::position;
 use place::put_position;
 
@@ -52,7 +51,12 @@ fn edit(mem: &mut [u8], p: Plan, e: Edit) {
         shift_all(mem, p, e.down);
         return;
     }
-    shift(mem, place::at(p.cabin, e.waypoint, e.longitude), e.down, e.by);
+    shift(
+        mem,
+        place::at(p.cabin, e.waypoint, e.longitude),
+        e.down,
+        e.by,
+    );
 }
 
 fn counted(a: Applied, e: Edit) -> Applied {

@@ -14,7 +14,9 @@ pub enum Found {
 
 // The kernel's records, and the mark that they begin with: PLAN.
 pub const RECORDS: u32 = 0x4000;
+
 const MARK: u32 = 0x4e41_4c50;
+
 const MOST: u32 = 4096;
 
 pub fn has_records(mem: &[u8]) -> bool {
@@ -67,5 +69,9 @@ pub fn position(b: &[u8], at: u32) -> u64 {
 
 pub fn put_position(b: &mut [u8], at: u32, x: u64) {
     cells::put_dword(b, at, (x % 4294967296) as u32);
-    cells::put_dword(b, std::num::wrapping_add_u32(at, 4), (x / 4294967296) as u32);
+    cells::put_dword(
+        b,
+        std::num::wrapping_add_u32(at, 4),
+        (x / 4294967296) as u32,
+    );
 }
