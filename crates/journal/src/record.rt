@@ -95,6 +95,9 @@ fn flags(e: u32) {
     bit(e / 512, b" IF");
     bit(e / 1024, b" DF");
     bit(e / 2048, b" OF");
+    if e % 4096 == 2 {
+        say(STDOUT_FILENO, b" none");
+    }
     say(STDOUT_FILENO, b", IOPL ");
     text::decimal(STDOUT_FILENO, e / 4096 % 4);
 }
