@@ -33,7 +33,7 @@ module _ (m : Mem) (z : Cpu) (r : Rest) (ei : r .eip ≡ z .eip) (es : r .status
   dashed n m′ e′ r′ {c′ = c′} k ec = record {
     holds = λ h. ap (sound m′) ec ∙ k z refl (still-sound m z r h ei es) .holds;
     went = λ h b j.
-      ap (steps micro32 b m) (sym (apart m z r h ei es)) ∙ k z refl (still-sound m z r h ei es) .went b j ∙ ap (λ (x : Cpu). after n (steps micro32 (b - n) m′ x)) (sym ec);
+        ap (steps micro32 b m) (sym (apart m z r h ei es)) ∙ k z refl (still-sound m z r h ei es) .went b j ∙ ap (λ (x : Cpu). after n (steps micro32 (b - n) m′ x)) (sym ec);
   }
 
 -- ---- after quick steps

@@ -61,8 +61,13 @@ module _ (m : Mem) (c : Control) (p : Fast) where
   pub none-reached : (q : Sought) → p .access ≡ 0 → q .value ≡ 0 → Reaches m c p q
   unfolding wantFirst wantSecond trailMarks patchesOf patches puts saved
   none-reached q h v = record {
-    one = nowhere; two = nowhere;
-    firstly = rw h (nothing-held m c); secondly = rw h (nothing-held m c); value = sym v; quiet = refl; left = λ x. rw h;
+    one = nowhere;
+    two = nowhere;
+    firstly = rw h (nothing-held m c);
+    secondly = rw h (nothing-held m c);
+    value = sym v;
+    quiet = refl;
+    left = λ x. rw h;
   }
 
   module _ (size : length m % 4096 ≡ 0) (small : p .at < 4294967296) (i : Physical) (k : Quiet m c (stores p) (p .at) i) where
@@ -95,16 +100,22 @@ module _ (m : Mem) (c : Control) (p : Fast) where
       where
         by : (b : Bool) → asks 4 p ≡ b → Reaches m c p q
         by true h = record {
-          one = nowhere; two = found v;
+          one = nowhere;
+          two = found v;
           firstly = rw (want-no-first p h) (nothing-held m c);
           secondly = rw (want-second p h) (found-held v ev fits);
-          value = sym (eq ∙ ap (λ (b : Bool). cond b 0 v) h); quiet = found-quiet v; left = λ x. rw ei (found-left v x);
+          value = sym (eq ∙ ap (λ (b : Bool). cond b 0 v) h);
+          quiet = found-quiet v;
+          left = λ x. rw ei (found-left v x);
         }
         by false h = record {
-          one = found v; two = nowhere;
+          one = found v;
+          two = nowhere;
           firstly = rw (want-first p n h) (found-held v ev fits);
           secondly = rw (want-no-second p h) (nothing-held m c);
-          value = sym (eq ∙ ap (λ (b : Bool). cond b 0 v) h); quiet = found-quiet v; left = λ x. rw ei (found-left v x);
+          value = sym (eq ∙ ap (λ (b : Bool). cond b 0 v) h);
+          quiet = found-quiet v;
+          left = λ x. rw ei (found-left v x);
         }
 
 -- ---- a store

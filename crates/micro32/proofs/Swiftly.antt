@@ -104,8 +104,13 @@ module _ (m : Mem) (size : length m % 4096 ≡ 0) (e : List ℕ) (r : Rest) (d :
 
     abbrev planned : Planned
     planned = record {
-      done = true; reply = compute (fits .instr) k (q .value) .reply; core = compute (fits .instr) k (q .value) .core; value = compute (fits .instr) k (q .value) .value;
-      length = fits .instr .length; first = found .one; second = found .two;
+      done = true;
+      reply = compute (fits .instr) k (q .value) .reply;
+      core = compute (fits .instr) k (q .value) .core;
+      value = compute (fits .instr) k (q .value) .value;
+      length = fits .instr .length;
+      first = found .one;
+      second = found .two;
     }
 
     stored : {m′ : Mem} {o : Out} → o ≡ resultOf p (q .value) (r .status) → m′ ≡ saved p (q .at) (o .value) m → m′ ≡ left planned m
@@ -148,7 +153,7 @@ module _ (m : Mem) (e : List ℕ) (c : Control) (r : Rest) (kept : KeptOk m c (r
       → SwiftOk m e c r m′ e′ (record { done = true; rest = r′ })
   hopped size small page room i p q ei′ fast taken found few r′ eo em ee ei es kept′ = record {
     did = λ _ d hc good.
-      quick-step m size e r d (rw hc kept) small page room p q (rw ei′ at fast) taken (rw hc found) few good r′ eo em ee ei es;
+        quick-step m size e r d (rw hc kept) small page room p q (rw ei′ at fast) taken (rw hc found) few good r′ eo em ee ei es;
     not = λ h. absurd (false≢true (sym h));
     kept = kept′;
   }

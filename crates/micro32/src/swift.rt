@@ -165,14 +165,7 @@ fn hop(mem: &mut [u8], t: &[u8; 512], e: &mut [u32], c: Control, r: Rest) -> Swi
     let eip = r.eip;
     let s = r.status;
     let h = r.kept;
-    let p = shortcut::quick(
-        mem,
-        t,
-        e,
-        s,
-        eip,
-        h.base as usize + (eip % 4096) as usize,
-    );
+    let p = shortcut::quick(mem, t, e, s, eip, h.base as usize + (eip % 4096) as usize);
     if !p.taken {
         return Swift {
             done: false,
@@ -231,7 +224,14 @@ fn leap(mem: &mut [u8], t: &[u8; 512], e: &mut [u32], c: Control, r: Rest) -> Sw
 }
 
 // Quick steps, as many as there can be and at most so many.
-pub fn rush(mem: &mut [u8], t: &[u8; 512], e: &mut [u32], c: Control, from: Rest, limit: u32) -> Rushed
+pub fn rush(
+    mem: &mut [u8],
+    t: &[u8; 512],
+    e: &mut [u32],
+    c: Control,
+    from: Rest,
+    limit: u32,
+) -> Rushed
     requires { ⌜ (length (now mem) % 4096 ≡ 0) × ((Classed (now t)) × (KeptOk (now mem) c (from .kept))) ⌝ }
     ensures { λ w. ⌜ (w .count ≤ limit) × (RushOk (now (mem .entry)) (now (e .entry)) c from (w .count) (now (mem .exit)) (now (e .exit)) (w .rest)) ⌝ }
 {

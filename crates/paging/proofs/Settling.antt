@@ -160,7 +160,7 @@ module _ (m : Mem) (c : Control) (l : ℕ) where
   page-stays e k on free fits = record {
     whole = λ _. omega (arith, fits);
     stays = λ _ m′ n g g′ l′ s h.
-      quiet-at m′ c false l′ e (pairs-agree m m′ c l l′ e k n (sym h) g g′) on free _ refl (rw n (inside (e .pte / 4096 * 4096) l′ fits));
+        quiet-at m′ c false l′ e (pairs-agree m m′ c l l′ e k n (sym h) g g′) on free _ refl (rw n (inside (e .pte / 4096 * 4096) l′ fits));
   }
     where
       inside : (b x : ℕ) → b + 4096 ≤ length m → b + x % 4096 < length m

@@ -81,8 +81,11 @@ module _ (v : View) (m : Mem) (e : List ℕ) (s : Status) (eip i : ℕ) (int dir
         by true d true w =
             let r = operand-register m (i + 2) md d in
             record {
-              instr = combining f op x n; decodes = de; free = free′;
-              firstly = first′ ∙ rw (w, direct d, d); secondly = second′ ∙ rw d;
+              instr = combining f op x n;
+              decodes = de;
+              free = free′;
+              firstly = first′ ∙ rw (w, direct d, d);
+              secondly = second′ ∙ rw d;
               done = λ a. rw (comp a, w);
               core = λ a _. rw (comp a, w, direct d, d, no-inc, no-dec, r, below-eight md);
               value = λ a _ _. rw (comp a, w, direct d, d, no-inc, no-dec, r);
@@ -90,24 +93,33 @@ module _ (v : View) (m : Mem) (e : List ℕ) (s : Status) (eip i : ℕ) (int dir
         by true d false w =
             let r = operand-register m (i + 2) md d in
             record {
-              instr = combining f op x n; decodes = de; free = free′;
-              firstly = first′ ∙ rw (w, direct d, d); secondly = second′ ∙ rw d;
+              instr = combining f op x n;
+              decodes = de;
+              free = free′;
+              firstly = first′ ∙ rw (w, direct d, d);
+              secondly = second′ ∙ rw d;
               done = λ a. rw (comp a, w);
               core = λ a _. rw (comp a, w, direct d, d, no-inc, no-dec, r, below-eight md);
               value = λ a _ _. rw (comp a, w, direct d, d, no-inc, no-dec, r);
             }
         by false d true w =
             record {
-              instr = combining f op x n; decodes = de; free = free′;
-              firstly = first′ ∙ rw (w, direct d, d); secondly = second′ ∙ rw (d, w);
+              instr = combining f op x n;
+              decodes = de;
+              free = free′;
+              firstly = first′ ∙ rw (w, direct d, d);
+              secondly = second′ ∙ rw (d, w);
               done = λ a. rw (comp a, w);
               core = λ a _. rw (comp a, w, direct d, d, no-inc, no-dec);
               value = λ a _ _. rw (comp a, w, direct d, d, no-inc, no-dec);
             }
         by false d false w =
             record {
-              instr = combining f op x n; decodes = de; free = free′;
-              firstly = first′ ∙ rw (w, direct d, d); secondly = second′ ∙ rw (d, w);
+              instr = combining f op x n;
+              decodes = de;
+              free = free′;
+              firstly = first′ ∙ rw (w, direct d, d);
+              secondly = second′ ∙ rw (d, w);
               done = λ a. rw (comp a, w);
               core = λ a _. rw (comp a, w, direct d, d, no-inc, no-dec);
               value = λ a _ _. rw (comp a, w, direct d, d, no-inc, no-dec);
@@ -125,26 +137,46 @@ module _ (v : View) (m : Mem) (e : List ℕ) (s : Status) (eip i : ℕ) (int dir
         by true d true w =
             let r = operand-register m (i + 2) md d in
             record {
-              instr = combining 2 op x n; decodes = de; free = λ _ _. refl; firstly = rw (direct d, d); secondly = rw d; done = λ a. refl;
+              instr = combining 2 op x n;
+              decodes = de;
+              free = λ _ _. refl;
+              firstly = rw (direct d, d);
+              secondly = rw d;
+              done = λ a. refl;
               core = λ a _. rw (w, direct d, d, no-inc, no-dec, r, below-eight (md / 8), len);
               value = λ a _ z. absurd (false≢true (rw d at z));
             }
         by true d false w =
             let r = operand-register m (i + 2) md d in
             record {
-              instr = combining 2 op x n; decodes = de; free = λ _ _. refl; firstly = rw (direct d, d); secondly = rw d; done = λ a. refl;
+              instr = combining 2 op x n;
+              decodes = de;
+              free = λ _ _. refl;
+              firstly = rw (direct d, d);
+              secondly = rw d;
+              done = λ a. refl;
               core = λ a _. rw (w, direct d, d, no-inc, no-dec, r, below-eight (md / 8), len);
               value = λ a _ z. absurd (false≢true (rw d at z));
             }
         by false d true w =
             record {
-              instr = combining 2 op x n; decodes = de; free = λ _ _. refl; firstly = rw (direct d, d); secondly = rw d; done = λ a. refl;
+              instr = combining 2 op x n;
+              decodes = de;
+              free = λ _ _. refl;
+              firstly = rw (direct d, d);
+              secondly = rw d;
+              done = λ a. refl;
               core = λ a _. rw (w, direct d, d, no-inc, no-dec, below-eight (md / 8), len);
               value = λ a _ z. absurd (false≢true (rw d at z));
             }
         by false d false w =
             record {
-              instr = combining 2 op x n; decodes = de; free = λ _ _. refl; firstly = rw (direct d, d); secondly = rw d; done = λ a. refl;
+              instr = combining 2 op x n;
+              decodes = de;
+              free = λ _ _. refl;
+              firstly = rw (direct d, d);
+              secondly = rw d;
+              done = λ a. refl;
               core = λ a _. rw (w, direct d, d, no-inc, no-dec, below-eight (md / 8), len);
               value = λ a _ z. absurd (false≢true (rw d at z));
             }
@@ -158,7 +190,12 @@ module _ (v : View) (m : Mem) (e : List ℕ) (s : Status) (eip i : ℕ) (int dir
     pub address-fits : decode eip v (logAt eip 0) ≡ ok loading (logAt eip n) → Fits v k (addressFast m e eip i md)
     unfolding first second writesOperand readsOperand compute computeMove doAddress address addressFast spotOf wantFirst wantSecond operate operation outOf resultOf stacked registersAfter coreAfter writeAt
     address-fits de = record {
-      instr = loading; decodes = de; free = λ _ _. refl; firstly = refl; secondly = refl; done = λ a. refl;
+      instr = loading;
+      decodes = de;
+      free = λ _ _. refl;
+      firstly = refl;
+      secondly = refl;
+      done = λ a. refl;
       core = λ a _. rw (mem, len, below-eight (md / 8), again (register (file e) (operandAt m (i + 2) md .base) + scaled (register (file e) (operandAt m (i + 2) md .index)) (operandAt m (i + 2) md .scale) + operandAt m (i + 2) md .displacement));
       value = λ a _ z. absurd (false≢true z);
     }

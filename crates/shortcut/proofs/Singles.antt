@@ -45,22 +45,40 @@ module _ (v : View) (m : Mem) (e : List ℕ) (s : Status) (eip i : ℕ) (int dir
   unfolding first second writesOperand readsOperand compute computeArithmetic doCombineImmediate combined deposit operandValue operandWant operate operation loadFast wantFirst wantSecond outOf resultOf stacked registersAfter coreAfter
   load-fits de = record {
     instr = naming 3 9 (eqb (b / 8 % 2) 1) (b % 8) (numberAt (eqb (b / 8 % 2) 1) m (i + 1)) (1 + cond (eqb (b / 8 % 2) 1) 4 1);
-    decodes = de; free = λ _ _. refl; firstly = refl; secondly = refl; done = λ a. refl; core = λ a _. rw (below-eight b); value = λ a _ z. absurd (false≢true z);
+    decodes = de;
+    free = λ _ _. refl;
+    firstly = refl;
+    secondly = refl;
+    done = λ a. refl;
+    core = λ a _. rw (below-eight b);
+    value = λ a _ z. absurd (false≢true z);
   }
 
   module _ (x : ℕ) where
     pub inc-fits : decode eip v (logAt eip 0) ≡ ok (naming 4 0 true (b % 8) x 1) (logAt eip 1) → Fits v k (countFast e eip 10 b)
     unfolding first second writesOperand readsOperand compute computeArithmetic doUnary deposit operandValue operandWant readAt countFast wantFirst wantSecond outOf resultOf stacked registersAfter coreAfter
     inc-fits de = record {
-      instr = naming 4 0 true (b % 8) x 1; decodes = de; free = λ _ _. refl; firstly = refl; secondly = refl; done = λ a. refl;
-      core = λ a _. rw (below-eight b); value = λ a _ z. absurd (false≢true z);
+      instr = naming 4 0 true (b % 8) x 1;
+      decodes = de;
+      free = λ _ _. refl;
+      firstly = refl;
+      secondly = refl;
+      done = λ a. refl;
+      core = λ a _. rw (below-eight b);
+      value = λ a _ z. absurd (false≢true z);
     }
 
     pub dec-fits : decode eip v (logAt eip 0) ≡ ok (naming 4 1 true (b % 8) x 1) (logAt eip 1) → Fits v k (countFast e eip 11 b)
     unfolding first second writesOperand readsOperand compute computeArithmetic doUnary deposit operandValue operandWant readAt countFast wantFirst wantSecond outOf resultOf stacked registersAfter coreAfter
     dec-fits de = record {
-      instr = naming 4 1 true (b % 8) x 1; decodes = de; free = λ _ _. refl; firstly = refl; secondly = refl; done = λ a. refl;
-      core = λ a _. rw (below-eight b); value = λ a _ z. absurd (false≢true z);
+      instr = naming 4 1 true (b % 8) x 1;
+      decodes = de;
+      free = λ _ _. refl;
+      firstly = refl;
+      secondly = refl;
+      done = λ a. refl;
+      core = λ a _. rw (below-eight b);
+      value = λ a _ z. absurd (false≢true z);
     }
 
   -- ---- jumps
@@ -69,19 +87,40 @@ module _ (v : View) (m : Mem) (e : List ℕ) (s : Status) (eip i : ℕ) (int dir
     pub jump-fits : decode eip v (logAt eip 0) ≡ ok (naming 18 op true r x n) (logAt eip n) → Fits v k (jumpFast (wrap (wrap (eip + n) + x)))
     unfolding first second writesOperand readsOperand compute computeFlow doJump operate operation jumpFast wantFirst wantSecond outOf resultOf stacked registersAfter coreAfter
     jump-fits de = record {
-      instr = naming 18 op true r x n; decodes = de; free = λ _ _. refl; firstly = refl; secondly = refl; done = λ a. refl; core = λ a _. refl; value = λ a _ z. absurd (false≢true z);
+      instr = naming 18 op true r x n;
+      decodes = de;
+      free = λ _ _. refl;
+      firstly = refl;
+      secondly = refl;
+      done = λ a. refl;
+      core = λ a _. refl;
+      value = λ a _ z. absurd (false≢true z);
     }
 
     pub jump-on : holds op s ≡ true → decode eip v (logAt eip 0) ≡ ok (naming 17 op true r x n) (logAt eip n) → Fits v k (jumpFast (wrap (wrap (eip + n) + x)))
     unfolding first second writesOperand readsOperand compute computeFlow doJumpOn operate operation jumpFast wantFirst wantSecond outOf resultOf stacked registersAfter coreAfter
     jump-on h de = record {
-      instr = naming 17 op true r x n; decodes = de; free = λ _ _. refl; firstly = refl; secondly = refl; done = λ a. refl; core = λ a _. rw h; value = λ a _ z. absurd (false≢true z);
+      instr = naming 17 op true r x n;
+      decodes = de;
+      free = λ _ _. refl;
+      firstly = refl;
+      secondly = refl;
+      done = λ a. refl;
+      core = λ a _. rw h;
+      value = λ a _ z. absurd (false≢true z);
     }
 
     pub jump-off : holds op s ≡ false → decode eip v (logAt eip 0) ≡ ok (naming 17 op true r x n) (logAt eip n) → Fits v k (jumpFast (wrap (eip + n)))
     unfolding first second writesOperand readsOperand compute computeFlow doJumpOn operate operation jumpFast wantFirst wantSecond outOf resultOf stacked registersAfter coreAfter
     jump-off h de = record {
-      instr = naming 17 op true r x n; decodes = de; free = λ _ _. refl; firstly = refl; secondly = refl; done = λ a. refl; core = λ a _. rw h; value = λ a _ z. absurd (false≢true z);
+      instr = naming 17 op true r x n;
+      decodes = de;
+      free = λ _ _. refl;
+      firstly = refl;
+      secondly = refl;
+      done = λ a. refl;
+      core = λ a _. rw h;
+      value = λ a _ z. absurd (false≢true z);
     }
 
     -- ---- the stack
@@ -90,14 +129,26 @@ module _ (v : View) (m : Mem) (e : List ℕ) (s : Status) (eip i : ℕ) (int dir
         → Fits v k (pushFast e (register (file e) r) (wrap (eip + n)))
     unfolding first second writesOperand readsOperand compute computeMove doPush operandValue operandWant readAt operate operation pushFast wantFirst wantSecond outOf resultOf stacked registersAfter coreAfter
     push-fits h de = record {
-      instr = naming 13 op true r x n; decodes = de; free = λ _ _. refl; firstly = refl; secondly = refl; done = λ a. refl; core = λ a _. refl;
+      instr = naming 13 op true r x n;
+      decodes = de;
+      free = λ _ _. refl;
+      firstly = refl;
+      secondly = refl;
+      done = λ a. refl;
+      core = λ a _. refl;
       value = λ a _ z. sym (same (register (file e) r) h);
     }
 
     pub call-fits : decode eip v (logAt eip 0) ≡ ok (naming 20 op true r x n) (logAt eip n) → Fits v k (pushFast e (wrap (eip + n)) (wrap (wrap (eip + n) + x)))
     unfolding first second writesOperand readsOperand compute computeFlow doCall operate operation pushFast wantFirst wantSecond outOf resultOf stacked registersAfter coreAfter
     call-fits de = record {
-      instr = naming 20 op true r x n; decodes = de; free = λ _ _. refl; firstly = refl; secondly = refl; done = λ a. refl; core = λ a _. refl;
+      instr = naming 20 op true r x n;
+      decodes = de;
+      free = λ _ _. refl;
+      firstly = refl;
+      secondly = refl;
+      done = λ a. refl;
+      core = λ a _. refl;
       value = λ a _ z. sym (same (wrap (eip + n)) (omega arith));
     }
 
@@ -105,13 +156,25 @@ module _ (v : View) (m : Mem) (e : List ℕ) (s : Status) (eip i : ℕ) (int dir
     pub pop-fits : decode eip v (logAt eip 0) ≡ ok (naming 15 op true (b % 8) x n) (logAt eip n) → Fits v k (popFast e 5 (b % 8) (wrap (eip + n)))
     unfolding first second writesOperand readsOperand compute computeMove doPop deposit operandWant writeAt operate operation popFast wantFirst wantSecond outOf resultOf stacked registersAfter coreAfter
     pop-fits de = record {
-      instr = naming 15 op true (b % 8) x n; decodes = de; free = λ _ _. refl; firstly = refl; secondly = refl; done = λ a. refl;
-      core = λ a h. rw (below-eight b, same a h); value = λ a _ z. absurd (false≢true z);
+      instr = naming 15 op true (b % 8) x n;
+      decodes = de;
+      free = λ _ _. refl;
+      firstly = refl;
+      secondly = refl;
+      done = λ a. refl;
+      core = λ a h. rw (below-eight b, same a h);
+      value = λ a _ z. absurd (false≢true z);
     }
 
     pub return-fits : decode eip v (logAt eip 0) ≡ ok (naming 22 op true x 0 n) (logAt eip n) → Fits v k (popFast e 6 8 (wrap (eip + n)))
     unfolding first second writesOperand readsOperand compute computeFlow doReturn operate operation popFast wantFirst wantSecond outOf resultOf stacked registersAfter coreAfter
     return-fits de = record {
-      instr = naming 22 op true x 0 n; decodes = de; free = λ _ _. refl; firstly = refl; secondly = refl; done = λ a. refl;
-      core = λ a h. let z : register (file e) 4 + 4 + 0 ≡ register (file e) 4 + 4 = omega arith in rw z; value = λ a _ z. absurd (false≢true z);
+      instr = naming 22 op true x 0 n;
+      decodes = de;
+      free = λ _ _. refl;
+      firstly = refl;
+      secondly = refl;
+      done = λ a. refl;
+      core = λ a h. let z : register (file e) 4 + 4 + 0 ≡ register (file e) 4 + 4 = omega arith in rw z;
+      value = λ a _ z. absurd (false≢true z);
     }

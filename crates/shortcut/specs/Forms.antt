@@ -44,8 +44,15 @@ leftRegister m = cond (isDirect m) (m % 8) 8
 unfoldable pub leftFast : Mem → List ℕ → ℕ → ℕ → ℕ → ℕ → ℕ → ℕ → ℕ → Fast
 leftFast mem e eip i op b m y n =
     record {
-      taken = true; op = op; wide = isOdd b; access = leftAccess m op; at = spotOf mem e i m;
-      x = readAt (isOdd b) (file e) (m % 8); y = y; to = leftRegister m; next = wrap (eip + n);
+      taken = true;
+      op = op;
+      wide = isOdd b;
+      access = leftAccess m op;
+      at = spotOf mem e i m;
+      x = readAt (isOdd b) (file e) (m % 8);
+      y = y;
+      to = leftRegister m;
+      next = wrap (eip + n);
     }
 
 abbrev pub toFast : Mem → List ℕ → ℕ → ℕ → ℕ → ℕ → ℕ → Fast
@@ -55,8 +62,15 @@ toFast mem e eip i op b m = leftFast mem e eip i op b m (readAt (isOdd b) (file 
 unfoldable pub fromFast : Mem → List ℕ → ℕ → ℕ → ℕ → ℕ → ℕ → Fast
 fromFast mem e eip i op b m =
     record {
-      taken = true; op = op; wide = isOdd b; access = cond (isDirect m) 0 3; at = spotOf mem e i m;
-      x = readAt (isOdd b) (file e) (m / 8 % 8); y = readAt (isOdd b) (file e) (m % 8); to = m / 8 % 8; next = wrap (eip + upTo mem i m);
+      taken = true;
+      op = op;
+      wide = isOdd b;
+      access = cond (isDirect m) 0 3;
+      at = spotOf mem e i m;
+      x = readAt (isOdd b) (file e) (m / 8 % 8);
+      y = readAt (isOdd b) (file e) (m % 8);
+      to = m / 8 % 8;
+      next = wrap (eip + upTo mem i m);
     }
 
 -- an immediate of four bytes (true) or of one with its sign, at index j
@@ -75,7 +89,14 @@ addressFast mem e eip i m =
 unfoldable pub loadFast : Mem → ℕ → ℕ → ℕ → Fast
 loadFast mem eip i b =
     record {
-      taken = true; op = 9; wide = eqb (b / 8 % 2) 1; access = 0; at = 0; x = 0; y = numberAt (eqb (b / 8 % 2) 1) mem (i + 1); to = b % 8;
+      taken = true;
+      op = 9;
+      wide = eqb (b / 8 % 2) 1;
+      access = 0;
+      at = 0;
+      x = 0;
+      y = numberAt (eqb (b / 8 % 2) 1) mem (i + 1);
+      to = b % 8;
       next = wrap (eip + (1 + cond (eqb (b / 8 % 2) 1) 4 1));
     }
 
