@@ -8,7 +8,7 @@ audit-requires : tie.Need-audit-requires
 audit-requires c κs = search needs
 
 returns : tie.Need-returns
-returns c = ap numbered ((c .audit .ensures))
+returns c = ap numbered (c .audit .ensures)
 
 pub audit-spec : {M : Type 1} → statement M
 audit-spec = tie.close (tie.spec audit-requires returns)

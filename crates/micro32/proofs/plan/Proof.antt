@@ -23,7 +23,7 @@ stopped-requires : tie.Need-stopped-requires
 stopped-requires c κs = search needs
 
 returns : tie.Need-returns
-returns c = at-unready ((c .before .before .before .before .before .before .before .before .before .args .mem .now)) ((c .before .before .before .before .before .before .before .before .before .args .c)) ((c .before .before .before .before .decode .ensures)) ((c .before .before .enum-told .given .1)) ((c .before .unready .ensures)) ((c .stopped .ensures))
+returns c = at-unready (c .before .before .before .before .before .before .before .before .before .args .mem .now) (c .before .before .before .before .before .before .before .before .before .args .c) (c .before .before .before .before .decode .ensures) (c .before .before .enum-told .given .1) (c .before .unready .ensures) (c .stopped .ensures)
 
 permitted-requires : tie.Need-permitted-requires
 permitted-requires c κs = search needs
@@ -32,7 +32,7 @@ stopped-requires-2 : tie.Need-stopped-requires-2
 stopped-requires-2 c κs = search needs
 
 returns-2 : tie.Need-returns-2
-returns-2 c = at-forbidden ((c .before .before .before .before .before .before .before .before .before .before .before .before .args .mem .now)) ((c .before .before .before .before .before .before .before .before .before .before .before .before .args .c)) ((c .before .before .before .before .before .before .before .decode .ensures)) _ ((c .before .before .before .before .before .d .given .1)) ((c .before .before .permitted .ensures)) (not-true _ ((c .before .if1 .taken))) ((c .stopped2 .ensures))
+returns-2 c = at-forbidden (c .before .before .before .before .before .before .before .before .before .before .before .before .args .mem .now) (c .before .before .before .before .before .before .before .before .before .before .before .before .args .c) (c .before .before .before .before .before .before .before .decode .ensures) _ (c .before .before .before .before .before .d .given .1) (c .before .before .permitted .ensures) (not-true _ (c .before .if1 .taken)) (c .stopped2 .ensures)
 
 first-requires : tie.Need-first-requires
 first-requires c κs = search needs
@@ -53,7 +53,7 @@ stopped-requires-3 : tie.Need-stopped-requires-3
 stopped-requires-3 c κs = search needs
 
 returns-3 : tie.Need-returns-3
-returns-3 c = at-first ((c .before .before .before .before .before .before .before .before .before .before .before .before .before .before .before .before .before .args .mem .now)) ((c .before .before .before .before .before .before .before .before .before .before .before .before .before .before .before .before .before .args .c)) ((c .before .before .before .before .before .before .before .before .before .before .before .before .decode .ensures)) _ ((c .before .before .before .before .before .before .before .before .before .before .d .given .1)) ((c .before .before .before .before .before .before .before .permitted .ensures)) (not-false _ ((c .before .before .before .before .before .before .if1 .left))) ((c .before .before .before .before .before .first .ensures)) _ ((c .before .before .before .before .locate .ensures)) ((c .before .before .enum-told2 .given .1)) ((c .before .gone .ensures)) ((c .stopped3 .ensures))
+returns-3 c = at-first (c .before .before .before .before .before .before .before .before .before .before .before .before .before .before .before .before .before .args .mem .now) (c .before .before .before .before .before .before .before .before .before .before .before .before .before .before .before .before .before .args .c) (c .before .before .before .before .before .before .before .before .before .before .before .before .decode .ensures) _ (c .before .before .before .before .before .before .before .before .before .before .d .given .1) (c .before .before .before .before .before .before .before .permitted .ensures) (not-false _ (c .before .before .before .before .before .before .if1 .left)) (c .before .before .before .before .before .first .ensures) _ (c .before .before .before .before .locate .ensures) (c .before .before .enum-told2 .given .1) (c .before .gone .ensures) (c .stopped3 .ensures)
 
 second-requires : tie.Need-second-requires
 second-requires c κs = search needs
@@ -74,7 +74,7 @@ stopped-requires-4 : tie.Need-stopped-requires-4
 stopped-requires-4 c κs = search needs
 
 returns-4 : tie.Need-returns-4
-returns-4 c = at-second ((c .before .before .before .before .before .before .before .before .before .before .before .before .before .before .before .before .before .before .before .before .before .before .args .mem .now)) ((c .before .before .before .before .before .before .before .before .before .before .before .before .before .before .before .before .before .before .before .before .before .before .args .c)) ((c .before .before .before .before .before .before .before .before .before .before .before .before .before .before .before .before .before .decode .ensures)) _ ((c .before .before .before .before .before .before .before .before .before .before .before .before .before .before .before .d .given .1)) ((c .before .before .before .before .before .before .before .before .before .before .before .before .permitted .ensures)) (not-false _ ((c .before .before .before .before .before .before .before .before .before .before .before .if1 .left))) ((c .before .before .before .before .before .before .before .before .before .before .first .ensures)) _ ((c .before .before .before .before .before .before .before .before .before .locate .ensures)) _ ((c .before .before .before .before .before .before .before .f .given .1)) ((c .before .before .before .before .before .second .ensures)) _ ((c .before .before .before .before .locate2 .ensures)) ((c .before .before .enum-told3 .given .1)) ((c .before .gone2 .ensures)) ((c .stopped4 .ensures))
+returns-4 c = at-second (c .before .before .before .before .before .before .before .before .before .before .before .before .before .before .before .before .before .before .before .before .before .before .args .mem .now) (c .before .before .before .before .before .before .before .before .before .before .before .before .before .before .before .before .before .before .before .before .before .before .args .c) (c .before .before .before .before .before .before .before .before .before .before .before .before .before .before .before .before .before .decode .ensures) _ (c .before .before .before .before .before .before .before .before .before .before .before .before .before .before .before .d .given .1) (c .before .before .before .before .before .before .before .before .before .before .before .before .permitted .ensures) (not-false _ (c .before .before .before .before .before .before .before .before .before .before .before .if1 .left)) (c .before .before .before .before .before .before .before .before .before .before .first .ensures) _ (c .before .before .before .before .before .before .before .before .before .locate .ensures) _ (c .before .before .before .before .before .before .before .f .given .1) (c .before .before .before .before .before .second .ensures) _ (c .before .before .before .before .locate2 .ensures) (c .before .before .enum-told3 .given .1) (c .before .gone2 .ensures) (c .stopped4 .ensures)
 
 compute-requires : tie.Need-compute-requires
 compute-requires c κs = search needs
@@ -83,7 +83,7 @@ is-done-requires : tie.Need-is-done-requires
 is-done-requires c κs = search needs
 
 returns-5 : tie.Need-returns-5
-returns-5 c = at-ready ((c .before .before .before .before .before .before .before .before .before .before .before .before .before .before .before .before .before .before .before .before .before .before .before .before .args .mem .now)) ((c .before .before .before .before .before .before .before .before .before .before .before .before .before .before .before .before .before .before .before .before .before .before .before .before .args .c)) ((c .before .before .before .before .before .before .before .before .before .before .before .before .before .before .before .before .before .before .before .decode .ensures)) _ ((c .before .before .before .before .before .before .before .before .before .before .before .before .before .before .before .before .before .d .given .1)) ((c .before .before .before .before .before .before .before .before .before .before .before .before .before .before .permitted .ensures)) (not-false _ ((c .before .before .before .before .before .before .before .before .before .before .before .before .before .if1 .left))) ((c .before .before .before .before .before .before .before .before .before .before .before .before .first .ensures)) _ ((c .before .before .before .before .before .before .before .before .before .before .before .locate .ensures)) _ ((c .before .before .before .before .before .before .before .before .before .f .given .1)) ((c .before .before .before .before .before .before .before .second .ensures)) _ ((c .before .before .before .before .before .before .locate2 .ensures)) _ ((c .before .before .before .before .g .given .1)) ((c .before .before .compute .result)) ((c .before .before .before .before .before .before .before .before .before .before .before .before .before .before .before .before .before .before .before .before .core-of .ensures)) ((c .before .before .compute .ensures)) ((c .is-done .ensures))
+returns-5 c = at-ready (c .before .before .before .before .before .before .before .before .before .before .before .before .before .before .before .before .before .before .before .before .before .before .before .before .args .mem .now) (c .before .before .before .before .before .before .before .before .before .before .before .before .before .before .before .before .before .before .before .before .before .before .before .before .args .c) (c .before .before .before .before .before .before .before .before .before .before .before .before .before .before .before .before .before .before .before .decode .ensures) _ (c .before .before .before .before .before .before .before .before .before .before .before .before .before .before .before .before .before .d .given .1) (c .before .before .before .before .before .before .before .before .before .before .before .before .before .before .permitted .ensures) (not-false _ (c .before .before .before .before .before .before .before .before .before .before .before .before .before .if1 .left)) (c .before .before .before .before .before .before .before .before .before .before .before .before .first .ensures) _ (c .before .before .before .before .before .before .before .before .before .before .before .locate .ensures) _ (c .before .before .before .before .before .before .before .before .before .f .given .1) (c .before .before .before .before .before .before .before .second .ensures) _ (c .before .before .before .before .before .before .locate2 .ensures) _ (c .before .before .before .before .g .given .1) (c .before .before .compute .result) (c .before .before .before .before .before .before .before .before .before .before .before .before .before .before .before .before .before .before .before .before .core-of .ensures) (c .before .before .compute .ensures) (c .is-done .ensures)
 
 pub plan-spec : {M : Type 1} → statement M
 plan-spec =

@@ -3,24 +3,18 @@ use Rattle.encoding.specs.Encodings.{Classed}
 use Rattle.machine.specs.Run.{run, steps}
 use Rattle.machine.specs.Record.{sound}
 use mathlib.Core.Bool.{true}
-use Prim.Native.Nat.{_≤_, _-_, _+_, _<_}
+use Prim.Native.Nat.{_≤_, _-_, _<_}
 use lib.ListN.{length}
 use Rattle.micro32.proofs.Runs.{rushed, stepped-sound, few-left}
 use Rattle.micro32.proofs.Steps.{plus, begun, went-on, ended-at, run-bad, spent, sound-size}
 use Rattle.machine.proofs.Done.{not-done}
 use Rattle.micro32.specs.Told.{runTold}
 use borrow.Author.Needs.{needs}
-use borrow.Author.Tests.{lt-ltb, le-ltb, le-leb, lt-leb, eq-eqb, ne-eqb, not-true, not-false, ltb-true}
+use borrow.Author.Tests.{not-true, not-false}
 use native.Mathlib.Omega.{arith}
 use mathlib.Core.Path.{_≡_, refl, sym, ap, _∙_}
 use Rattle.micro32.proofs.run.Statement.{statement}
 use Rattle.micro32.proofs.run.Tie as tie
-use Rattle.micro32.proofs.run.Reads as reads
-use Rattle.micro32.proofs.run.Lts as lts
-use Rattle.encoding.proofs.classes.Reads as classes-reads
-use Rattle.machine.proofs.sound.Reads as sound-reads
-use Rattle.micro32.proofs.advance.Reads as advance-reads
-use Rattle.micro32.proofs.dash.Reads as dash-reads
 
 abbrev Inv-loop : tie.InvT-loop
 Inv-loop mem₀ budget t n₀ d₀ mem n d =
@@ -29,76 +23,59 @@ Inv-loop mem₀ budget t n₀ d₀ mem n d =
 abbrev μ-loop : tie.MeasureT-loop
 μ-loop mem₀ budget t n₀ d₀ mem n d = budget - n
 
--- src/lib.rt:251:9
 sound-requires : tie.Need-sound-requires Inv-loop μ-loop
 sound-requires c κs = search needs
 
--- src/lib.rt:252:9
 returns : tie.Need-returns Inv-loop μ-loop
-returns c = ap runTold (run-bad _ _ ((c .before .before .before .args .c)) (sym ((c .before .sound .ensures)) ∙ not-true _ ((c .if1 .taken))))
+returns c = ap runTold (run-bad _ _ (c .before .before .before .args .c) (sym (c .before .sound .ensures) ∙ not-true _ (c .if1 .taken)))
 
--- src/lib.rt:258:13
 classes-requires : tie.Need-classes-requires Inv-loop μ-loop
 classes-requires c κs = search needs
 
--- src/lib.rt:261:5
 loop-holds : tie.Need-loop-holds Inv-loop μ-loop
-loop-holds c = (search needs, refl, (c .classes .ensures), (sym ((c .before .before .sound .ensures)) ∙ not-false _ ((c .before .if1 .left))), begun _ _ ((c .before .before .before .before .args .c)) (sym ((c .before .before .sound .ensures)) ∙ not-false _ ((c .before .if1 .left))))
+loop-holds c = (search needs, refl, (c .classes .ensures), (sym (c .before .before .sound .ensures) ∙ not-false _ (c .before .if1 .left)), begun _ _ (c .before .before .before .before .args .c) (sym (c .before .before .sound .ensures) ∙ not-false _ (c .before .if1 .left)))
 
--- src/lib.rt:262:34
 sub-dash : tie.Need-sub-dash Inv-loop μ-loop
 sub-dash c = search needs
 
--- src/lib.rt:262:13
 dash-requires : tie.Need-dash-requires Inv-loop μ-loop
-dash-requires c κs = (sound-size _ _ ((c .before .before .before .loop .inv .3)), (c .before .before .before .loop .inv .2))
+dash-requires c κs = (sound-size _ _ (c .before .before .before .loop .inv .3), (c .before .before .before .loop .inv .2))
 
--- src/lib.rt:265:9
 add-n : tie.Need-add-n Inv-loop μ-loop
-add-n c = let f = (few-left _ _ _ ((c .before .before .before .before .before .before .before .before .loop .inv .0)) ((c .before .before .before .before .dash .ensures .0))) in omega (arith, f, (c .before .before .before .before .before .before .before .before .before .before .before .before .before .fits .budget))
+add-n c = let f = (few-left _ _ _ (c .before .before .before .before .before .before .before .before .loop .inv .0) (c .before .before .before .before .dash .ensures .0)) in omega (arith, f, (c .before .before .before .before .before .before .before .before .before .before .before .before .before .fits .budget))
 
--- src/lib.rt:267:13
 same-length : tie.Need-same-length Inv-loop μ-loop
-same-length c = ((c .before .before .before .before .before .dash .kept .1 .0)) ∙ ((c .before .before .before .before .before .before .before .before .before .loop .inv .1))
+same-length c = (c .before .before .before .before .before .dash .kept .1 .0) ∙ (c .before .before .before .before .before .before .before .before .before .loop .inv .1)
 
--- src/lib.rt:267:13
 returns-2 : tie.Need-returns-2 Inv-loop μ-loop
-returns-2 c = ap runTold (spent _ _ _ _ _ (few-left _ _ _ ((c .before .before .before .before .before .before .before .before .before .loop .inv .0)) ((c .before .before .before .before .before .dash .ensures .0))) ((c .if2 .taken)) (rushed _ _ _ _ _ ((c .before .before .before .before .before .before .before .before .before .loop .inv .4)) ((c .before .before .before .before .before .before .before .before .before .loop .inv .3)) _ _ _ ((c .before .before .before .before .before .dash .ensures .1)) ((c .before .before .before .before .before .dash .ensures .0))))
+returns-2 c = ap runTold (spent _ _ _ _ _ (few-left _ _ _ (c .before .before .before .before .before .before .before .before .before .loop .inv .0) (c .before .before .before .before .before .dash .ensures .0)) (c .if2 .taken) (rushed _ _ _ _ _ (c .before .before .before .before .before .before .before .before .before .loop .inv .4) (c .before .before .before .before .before .before .before .before .before .loop .inv .3) _ _ _ (c .before .before .before .before .before .dash .ensures .1) (c .before .before .before .before .before .dash .ensures .0)))
 
--- src/lib.rt:273:13
 advance-requires : tie.Need-advance-requires Inv-loop μ-loop
 advance-requires c κs = (c .before .before .before .before .before .before .before .before .before .before .before .loop .inv .2)
 
 enum-told : tie.Need-enum-told Inv-loop μ-loop
 enum-told c = search needs
 
--- src/lib.rt:278:13
 same-length-2 : tie.Need-same-length-2 Inv-loop μ-loop
-same-length-2 c = ((c .before .before .before .before .advance .kept .1 .0)) ∙ ((c .before .before .before .before .before .before .before .before .before .before .before .before .dash .kept .1 .0)) ∙ ((c .before .before .before .before .before .before .before .before .before .before .before .before .before .before .before .before .loop .inv .1))
+same-length-2 c = (c .before .before .before .before .advance .kept .1 .0) ∙ (c .before .before .before .before .before .before .before .before .before .before .before .before .dash .kept .1 .0) ∙ (c .before .before .before .before .before .before .before .before .before .before .before .before .before .before .before .before .loop .inv .1)
 
--- src/lib.rt:278:13
 returns-3 : tie.Need-returns-3 Inv-loop μ-loop
-returns-3 c = ap runTold (ended-at _ _ _ _ _ _ ((c .before .before .before .before .before .before .before .if2 .left)) (rushed _ _ _ _ _ ((c .before .before .before .before .before .before .before .before .before .before .before .before .before .before .before .before .loop .inv .4)) ((c .before .before .before .before .before .before .before .before .before .before .before .before .before .before .before .before .loop .inv .3)) _ _ _ ((c .before .before .before .before .before .before .before .before .before .before .before .before .dash .ensures .1)) ((c .before .before .before .before .before .before .before .before .before .before .before .before .dash .ensures .0))) ((c .before .before .before .before .advance .ensures)) (not-done ((c .before .before .before .before .advance .result .reply)) ((c .match .keys2))))
+returns-3 c = ap runTold (ended-at _ _ _ _ _ _ (c .before .before .before .before .before .before .before .if2 .left) (rushed _ _ _ _ _ (c .before .before .before .before .before .before .before .before .before .before .before .before .before .before .before .before .loop .inv .4) (c .before .before .before .before .before .before .before .before .before .before .before .before .before .before .before .before .loop .inv .3) _ _ _ (c .before .before .before .before .before .before .before .before .before .before .before .before .dash .ensures .1) (c .before .before .before .before .before .before .before .before .before .before .before .before .dash .ensures .0)) (c .before .before .before .before .advance .ensures) (not-done (c .before .before .before .before .advance .result .reply) (c .match .keys2)))
 
--- src/lib.rt:284:9
 add-n-2 : tie.Need-add-n-2 Inv-loop μ-loop
 add-n-2 c = let f : _ < _ = (c .before .before .before .before .before .before .before .before .if2 .left) in omega (arith, f, (c .before .before .before .before .before .before .before .before .before .before .before .before .before .before .before .before .before .before .before .before .before .before .fits .budget))
 
--- src/lib.rt:261:5
 loop-less : tie.Need-loop-less Inv-loop μ-loop
 loop-less c = let f : _ < _ = (c .before .before .before .before .before .before .before .before .if2 .left) in omega (arith, f)
 
--- src/lib.rt:261:5
 loop-again : tie.Need-loop-again Inv-loop μ-loop
-loop-again c = (omega (arith, (c .before .before .before .before .before .before .before .before .if2 .left)), ((c .before .before .before .before .before .advance .kept .1 .0)) ∙ ((c .before .before .before .before .before .before .before .before .before .before .before .before .before .dash .kept .1 .0)) ∙ ((c .before .before .before .before .before .before .before .before .before .before .before .before .before .before .before .before .before .loop .inv .1)), (c .before .before .before .before .before .before .before .before .before .before .before .before .before .before .before .before .before .loop .inv .2), stepped-sound _ _ _ ((c .before .before .before .before .before .before .before .before .before .before .before .before .before .dash .ensures .1 .holds) ((c .before .before .before .before .before .before .before .before .before .before .before .before .before .before .before .before .before .loop .inv .3))) ((c .before .before .before .before .before .advance .ensures)), went-on _ _ _ _ _ _ ((c .before .before .before .before .before .before .before .before .if2 .left)) (rushed _ _ _ _ _ ((c .before .before .before .before .before .before .before .before .before .before .before .before .before .before .before .before .before .loop .inv .4)) ((c .before .before .before .before .before .before .before .before .before .before .before .before .before .before .before .before .before .loop .inv .3)) _ _ _ ((c .before .before .before .before .before .before .before .before .before .before .before .before .before .dash .ensures .1)) ((c .before .before .before .before .before .before .before .before .before .before .before .before .before .dash .ensures .0))) ((c .before .before .before .before .before .advance .ensures)) ((c .enum-told .given .1)))
+loop-again c = (omega (arith, (c .before .before .before .before .before .before .before .before .if2 .left)), (c .before .before .before .before .before .advance .kept .1 .0) ∙ (c .before .before .before .before .before .before .before .before .before .before .before .before .before .dash .kept .1 .0) ∙ (c .before .before .before .before .before .before .before .before .before .before .before .before .before .before .before .before .before .loop .inv .1), (c .before .before .before .before .before .before .before .before .before .before .before .before .before .before .before .before .before .loop .inv .2), stepped-sound _ _ _ ((c .before .before .before .before .before .before .before .before .before .before .before .before .before .dash .ensures .1 .holds) (c .before .before .before .before .before .before .before .before .before .before .before .before .before .before .before .before .before .loop .inv .3)) (c .before .before .before .before .before .advance .ensures), went-on _ _ _ _ _ _ (c .before .before .before .before .before .before .before .before .if2 .left) (rushed _ _ _ _ _ (c .before .before .before .before .before .before .before .before .before .before .before .before .before .before .before .before .before .loop .inv .4) (c .before .before .before .before .before .before .before .before .before .before .before .before .before .before .before .before .before .loop .inv .3) _ _ _ (c .before .before .before .before .before .before .before .before .before .before .before .before .before .dash .ensures .1) (c .before .before .before .before .before .before .before .before .before .before .before .before .before .dash .ensures .0)) (c .before .before .before .before .before .advance .ensures) (c .enum-told .given .1))
 
--- src/lib.rt:248:1
 same-length-3 : tie.Need-same-length-3 Inv-loop μ-loop
 same-length-3 c = (c .before .loop .inv .1)
 
--- src/lib.rt:248:1
 returns-4 : tie.Need-returns-4 Inv-loop μ-loop
-returns-4 c = ap runTold (spent _ _ _ _ _ ((c .before .loop .inv .0)) ((c .loop-test .left)) ((c .before .loop .inv .4)))
+returns-4 c = ap runTold (spent _ _ _ _ _ (c .before .loop .inv .0) (c .loop-test .left) (c .before .loop .inv .4))
 
 pub run-spec : {M : Type 1} → statement M
 run-spec =

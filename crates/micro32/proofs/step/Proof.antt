@@ -14,7 +14,7 @@ same-length : tie.Need-same-length
 same-length c = search needs
 
 returns : tie.Need-returns
-returns c = ap told ((c .before .before .advance .ensures))
+returns c = ap told (c .before .before .advance .ensures)
 
 pub step-spec : {M : Type 1} → statement M
 step-spec = tie.close (tie.spec classes-requires advance-requires same-length returns)

@@ -1,124 +1,88 @@
 use Rattle.encoding.specs.Encodings.{classOf}
 use mathlib.Core.Bool.{true, false}
-use Rattle.shortcut.proofs.Taken.{not-taken, taken-to, taken-from, taken-address, taken-load, taken-inc, taken-dec, taken-push, taken-pop, taken-return, taken-jump, taken-number, taken-near, taken-far, taken-call}
+use Rattle.shortcut.proofs.Taken.{not-taken, taken-number, taken-near, taken-far, taken-call}
 use borrow.Author.Needs.{needs}
-use borrow.Author.Tests.{lt-ltb, le-ltb, le-leb, lt-leb, eq-eqb, ne-eqb, not-true, not-false, ltb-true}
-use native.Mathlib.Omega.{arith}
-use mathlib.Core.Path.{_≡_, refl, sym, ap, _∙_}
+use mathlib.Core.Path.{refl}
 use Rattle.shortcut.proofs.by_opcode.Statement.{statement}
 use Rattle.shortcut.proofs.by_opcode.Tie as tie
-use Rattle.shortcut.proofs.by_opcode.Reads as reads
-use Rattle.shortcut.proofs.by_opcode.Lts as lts
-use Rattle.decode.proofs.extend.Reads as extend-reads
-use Rattle.shortcut.proofs.by_number.Reads as by-number-reads
-use Rattle.shortcut.proofs.bytes.dword.Reads as dword-reads
-use Rattle.shortcut.proofs.jump.Reads as jump-reads
-use Rattle.shortcut.proofs.none.Reads as none-reads
-use Rattle.shortcut.proofs.push.Reads as push-reads
-use Rattle.std.proofs.num.wrapping_add_u32.Reads as wrapping-add-u32-reads
 
--- src/lib.rt:265:16
 by-number-requires : tie.Need-by-number-requires
 by-number-requires c κs = search needs
 
--- src/lib.rt:266:16
 by-number-requires-2 : tie.Need-by-number-requires-2
 by-number-requires-2 c κs = search needs
 
--- src/lib.rt:267:16
 by-number-requires-3 : tie.Need-by-number-requires-3
 by-number-requires-3 c κs = search needs
 
--- src/lib.rt:269:17
 wrapping-add-u32-requires : tie.Need-wrapping-add-u32-requires
 wrapping-add-u32-requires c κs = search needs
 
--- src/lib.rt:273:68
 add-dword : tie.Need-add-dword
 add-dword c = search needs
 
--- src/lib.rt:273:50
 dword-requires : tie.Need-dword-requires
 dword-requires c κs = search needs
 
--- src/lib.rt:273:17
 wrapping-add-u32-requires-2 : tie.Need-wrapping-add-u32-requires-2
 wrapping-add-u32-requires-2 c κs = search needs
 
--- src/lib.rt:270:13
 push-requires : tie.Need-push-requires
 push-requires c κs = search needs
 
--- src/lib.rt:277:17
 wrapping-add-u32-requires-3 : tie.Need-wrapping-add-u32-requires-3
 wrapping-add-u32-requires-3 c κs = search needs
 
--- src/lib.rt:278:69
 add-dword-2 : tie.Need-add-dword-2
 add-dword-2 c = search needs
 
--- src/lib.rt:278:51
 dword-requires-2 : tie.Need-dword-requires-2
 dword-requires-2 c κs = search needs
 
--- src/lib.rt:278:18
 wrapping-add-u32-requires-4 : tie.Need-wrapping-add-u32-requires-4
 wrapping-add-u32-requires-4 c κs = search needs
 
--- src/lib.rt:278:13
 jump-requires : tie.Need-jump-requires
 jump-requires c κs = search needs
 
--- src/lib.rt:281:17
 wrapping-add-u32-requires-5 : tie.Need-wrapping-add-u32-requires-5
 wrapping-add-u32-requires-5 c κs = search needs
 
--- src/lib.rt:282:51
 extend-requires : tie.Need-extend-requires
 extend-requires c κs = search needs
 
--- src/lib.rt:282:18
 wrapping-add-u32-requires-6 : tie.Need-wrapping-add-u32-requires-6
 wrapping-add-u32-requires-6 c κs = search needs
 
--- src/lib.rt:282:13
 jump-requires-2 : tie.Need-jump-requires-2
 jump-requires-2 c κs = search needs
 
--- src/lib.rt:284:14
 none-requires : tie.Need-none-requires
 none-requires c κs = search needs
 
--- src/lib.rt:260:1
 returns : tie.Need-returns
 unfolding classOf
-returns c = λ s. taken-number ((c .before .before .before .before .args .mem .now)) ((c .before .before .before .before .args .e .now)) s ((c .before .before .before .before .args .eip)) ((c .before .before .before .before .args .i)) _ _ ((c .before .before .before .before .pre .1 .0)) ((c .before .before .before .before .pre .1 .1 .0)) _ 128 false ((c .before .match .keys1)) refl refl ((c .by-number .ensures))
+returns c = λ s. taken-number (c .before .before .before .before .args .mem .now) (c .before .before .before .before .args .e .now) s (c .before .before .before .before .args .eip) (c .before .before .before .before .args .i) _ _ (c .before .before .before .before .pre .1 .0) (c .before .before .before .before .pre .1 .1 .0) _ 128 false (c .before .match .keys1) refl refl (c .by-number .ensures)
 
--- src/lib.rt:260:1
 returns-2 : tie.Need-returns-2
 unfolding classOf
-returns-2 c = λ s. taken-number ((c .before .before .before .before .args .mem .now)) ((c .before .before .before .before .args .e .now)) s ((c .before .before .before .before .args .eip)) ((c .before .before .before .before .args .i)) _ _ ((c .before .before .before .before .pre .1 .0)) ((c .before .before .before .before .pre .1 .1 .0)) _ 129 true ((c .before .match .keys2)) refl refl ((c .by-number2 .ensures))
+returns-2 c = λ s. taken-number (c .before .before .before .before .args .mem .now) (c .before .before .before .before .args .e .now) s (c .before .before .before .before .args .eip) (c .before .before .before .before .args .i) _ _ (c .before .before .before .before .pre .1 .0) (c .before .before .before .before .pre .1 .1 .0) _ 129 true (c .before .match .keys2) refl refl (c .by-number2 .ensures)
 
--- src/lib.rt:260:1
 returns-3 : tie.Need-returns-3
 unfolding classOf
-returns-3 c = λ s. taken-number ((c .before .before .before .before .args .mem .now)) ((c .before .before .before .before .args .e .now)) s ((c .before .before .before .before .args .eip)) ((c .before .before .before .before .args .i)) _ _ ((c .before .before .before .before .pre .1 .0)) ((c .before .before .before .before .pre .1 .1 .0)) _ 131 false ((c .before .match .keys3)) refl refl ((c .by-number3 .ensures))
+returns-3 c = λ s. taken-number (c .before .before .before .before .args .mem .now) (c .before .before .before .before .args .e .now) s (c .before .before .before .before .args .eip) (c .before .before .before .before .args .i) _ _ (c .before .before .before .before .pre .1 .0) (c .before .before .before .before .pre .1 .1 .0) _ 131 false (c .before .match .keys3) refl refl (c .by-number3 .ensures)
 
--- src/lib.rt:260:1
 returns-4 : tie.Need-returns-4
-returns-4 c = λ s. taken-call ((c .before .before .before .before .before .before .before .args .mem .now)) ((c .before .before .before .before .before .before .before .args .e .now)) s ((c .before .before .before .before .before .before .before .args .eip)) ((c .before .before .before .before .before .before .before .args .i)) _ _ ((c .before .before .before .before .before .before .before .pre .1 .0)) ((c .before .before .before .before .before .before .before .pre .1 .1 .0)) _ _ _ _ ((c .before .before .before .before .match .keys4)) ((c .before .before .before .wrapping-add-u32 .ensures)) ((c .before .before .dword .ensures)) ((c .before .wrapping-add-u322 .ensures)) ((c .push .ensures))
+returns-4 c = λ s. taken-call (c .before .before .before .before .before .before .before .args .mem .now) (c .before .before .before .before .before .before .before .args .e .now) s (c .before .before .before .before .before .before .before .args .eip) (c .before .before .before .before .before .before .before .args .i) _ _ (c .before .before .before .before .before .before .before .pre .1 .0) (c .before .before .before .before .before .before .before .pre .1 .1 .0) _ _ _ _ (c .before .before .before .before .match .keys4) (c .before .before .before .wrapping-add-u32 .ensures) (c .before .before .dword .ensures) (c .before .wrapping-add-u322 .ensures) (c .push .ensures)
 
--- src/lib.rt:260:1
 returns-5 : tie.Need-returns-5
-returns-5 c = λ s. taken-far ((c .before .before .before .before .before .before .before .args .mem .now)) ((c .before .before .before .before .before .before .before .args .e .now)) s ((c .before .before .before .before .before .before .before .args .eip)) ((c .before .before .before .before .before .before .before .args .i)) _ _ ((c .before .before .before .before .before .before .before .pre .1 .0)) ((c .before .before .before .before .before .before .before .pre .1 .1 .0)) _ _ _ _ ((c .before .before .before .before .match .keys5)) ((c .before .before .before .wrapping-add-u323 .ensures)) ((c .before .before .dword2 .ensures)) ((c .before .wrapping-add-u324 .ensures)) ((c .jump .ensures))
+returns-5 c = λ s. taken-far (c .before .before .before .before .before .before .before .args .mem .now) (c .before .before .before .before .before .before .before .args .e .now) s (c .before .before .before .before .before .before .before .args .eip) (c .before .before .before .before .before .before .before .args .i) _ _ (c .before .before .before .before .before .before .before .pre .1 .0) (c .before .before .before .before .before .before .before .pre .1 .1 .0) _ _ _ _ (c .before .before .before .before .match .keys5) (c .before .before .before .wrapping-add-u323 .ensures) (c .before .before .dword2 .ensures) (c .before .wrapping-add-u324 .ensures) (c .jump .ensures)
 
--- src/lib.rt:260:1
 returns-6 : tie.Need-returns-6
-returns-6 c = λ s. taken-near ((c .before .before .before .before .before .before .before .args .mem .now)) ((c .before .before .before .before .before .before .before .args .e .now)) s ((c .before .before .before .before .before .before .before .args .eip)) ((c .before .before .before .before .before .before .before .args .i)) _ _ ((c .before .before .before .before .before .before .before .pre .1 .0)) ((c .before .before .before .before .before .before .before .pre .1 .1 .0)) _ _ _ _ ((c .before .before .before .before .match .keys6)) ((c .before .before .before .wrapping-add-u325 .ensures)) ((c .before .before .extend .ensures)) ((c .before .wrapping-add-u326 .ensures)) ((c .jump2 .ensures))
+returns-6 c = λ s. taken-near (c .before .before .before .before .before .before .before .args .mem .now) (c .before .before .before .before .before .before .before .args .e .now) s (c .before .before .before .before .before .before .before .args .eip) (c .before .before .before .before .before .before .before .args .i) _ _ (c .before .before .before .before .before .before .before .pre .1 .0) (c .before .before .before .before .before .before .before .pre .1 .1 .0) _ _ _ _ (c .before .before .before .before .match .keys6) (c .before .before .before .wrapping-add-u325 .ensures) (c .before .before .extend .ensures) (c .before .wrapping-add-u326 .ensures) (c .jump2 .ensures)
 
--- src/lib.rt:260:1
 returns-7 : tie.Need-returns-7
-returns-7 c = λ s. not-taken ((c .before .before .before .before .args .mem .now)) ((c .before .before .before .before .args .e .now)) s ((c .before .before .before .before .args .eip)) ((c .before .before .before .before .args .i)) _ ((c .none .ensures))
+returns-7 c = λ s. not-taken (c .before .before .before .before .args .mem .now) (c .before .before .before .before .args .e .now) s (c .before .before .before .before .args .eip) (c .before .before .before .before .args .i) _ (c .none .ensures)
 
 pub by-opcode-spec : {M : Type 1} → statement M
 by-opcode-spec =

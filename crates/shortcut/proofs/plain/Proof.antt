@@ -1,109 +1,73 @@
-use Rattle.shortcut.proofs.Taken.{not-taken, taken-to, taken-from, taken-address, taken-load, taken-inc, taken-dec, taken-push, taken-pop, taken-return, taken-jump, taken-number, taken-near, taken-far, taken-call}
+use Rattle.shortcut.proofs.Taken.{not-taken, taken-load, taken-inc, taken-dec, taken-push, taken-pop, taken-return, taken-jump}
 use borrow.Author.Needs.{needs}
-use borrow.Author.Tests.{lt-ltb, le-ltb, le-leb, lt-leb, eq-eqb, ne-eqb, not-true, not-false, ltb-true}
-use native.Mathlib.Omega.{arith}
-use mathlib.Core.Path.{_≡_, refl, sym, ap, _∙_}
 use Rattle.shortcut.proofs.plain.Statement.{statement}
 use Rattle.shortcut.proofs.plain.Tie as tie
-use Rattle.shortcut.proofs.plain.Reads as reads
-use Rattle.shortcut.proofs.plain.Lts as lts
-use Rattle.shortcut.proofs.by_opcode.Reads as by-opcode-reads
-use Rattle.shortcut.proofs.bytes.register.Reads as register-reads
-use Rattle.shortcut.proofs.count.Reads as count-reads
-use Rattle.shortcut.proofs.jump_if.Reads as jump-if-reads
-use Rattle.shortcut.proofs.load.Reads as load-reads
-use Rattle.shortcut.proofs.none.Reads as none-reads
-use Rattle.shortcut.proofs.pop.Reads as pop-reads
-use Rattle.shortcut.proofs.push.Reads as push-reads
-use Rattle.std.proofs.num.wrapping_add_u32.Reads as wrapping-add-u32-reads
 
--- src/lib.rt:294:15
 load-requires : tie.Need-load-requires
 load-requires c κs = search needs
 
--- src/lib.rt:295:15
 count-requires : tie.Need-count-requires
 count-requires c κs = search needs
 
--- src/lib.rt:296:15
 count-requires-2 : tie.Need-count-requires-2
 count-requires-2 c κs = search needs
 
--- src/lib.rt:299:13
 register-requires : tie.Need-register-requires
 register-requires c κs = search needs
 
--- src/lib.rt:300:13
 wrapping-add-u32-requires : tie.Need-wrapping-add-u32-requires
 wrapping-add-u32-requires c κs = search needs
 
--- src/lib.rt:297:15
 push-requires : tie.Need-push-requires
 push-requires c κs = search needs
 
--- src/lib.rt:302:32
 wrapping-add-u32-requires-2 : tie.Need-wrapping-add-u32-requires-2
 wrapping-add-u32-requires-2 c κs = search needs
 
--- src/lib.rt:302:15
 pop-requires : tie.Need-pop-requires
 pop-requires c κs = search needs
 
--- src/lib.rt:305:17
 none-requires : tie.Need-none-requires
 none-requires c κs = search needs
 
--- src/lib.rt:305:17
 returns : tie.Need-returns
-returns c = not-taken ((c .before .before .before .before .before .args .mem .now)) ((c .before .before .before .before .before .args .e .now)) ((c .before .before .before .before .before .args .s)) ((c .before .before .before .before .before .args .eip)) ((c .before .before .before .before .before .args .i)) _ ((c .none .ensures))
+returns c = not-taken (c .before .before .before .before .before .args .mem .now) (c .before .before .before .before .before .args .e .now) (c .before .before .before .before .before .args .s) (c .before .before .before .before .before .args .eip) (c .before .before .before .before .before .args .i) _ (c .none .ensures)
 
--- src/lib.rt:307:13
 jump-if-requires : tie.Need-jump-if-requires
 jump-if-requires c κs = search needs
 
--- src/lib.rt:309:28
 wrapping-add-u32-requires-3 : tie.Need-wrapping-add-u32-requires-3
 wrapping-add-u32-requires-3 c κs = search needs
 
--- src/lib.rt:309:15
 pop-requires-2 : tie.Need-pop-requires-2
 pop-requires-2 c κs = search needs
 
--- src/lib.rt:310:14
 by-opcode-requires : tie.Need-by-opcode-requires
 by-opcode-requires c κs = search needs
 
--- src/lib.rt:289:1
 returns-2 : tie.Need-returns-2
-returns-2 c = taken-load ((c .before .before .before .before .args .mem .now)) ((c .before .before .before .before .args .e .now)) ((c .before .before .before .before .args .s)) ((c .before .before .before .before .args .eip)) ((c .before .before .before .before .args .i)) _ _ _ ((c .before .before .before .before .pre .1 .0)) ((c .before .before .before .before .pre .1 .1 .0)) ((c .before .before .before .before .pre .1 .1 .1 .1)) _ ((c .before .match .keys1)) ((c .load .ensures))
+returns-2 c = taken-load (c .before .before .before .before .args .mem .now) (c .before .before .before .before .args .e .now) (c .before .before .before .before .args .s) (c .before .before .before .before .args .eip) (c .before .before .before .before .args .i) _ _ _ (c .before .before .before .before .pre .1 .0) (c .before .before .before .before .pre .1 .1 .0) (c .before .before .before .before .pre .1 .1 .1 .1) _ (c .before .match .keys1) (c .load .ensures)
 
--- src/lib.rt:289:1
 returns-3 : tie.Need-returns-3
-returns-3 c = taken-inc ((c .before .before .before .before .args .mem .now)) ((c .before .before .before .before .args .e .now)) ((c .before .before .before .before .args .s)) ((c .before .before .before .before .args .eip)) ((c .before .before .before .before .args .i)) _ _ _ ((c .before .before .before .before .pre .1 .0)) ((c .before .before .before .before .pre .1 .1 .0)) ((c .before .before .before .before .pre .1 .1 .1 .1)) _ ((c .before .match .keys2)) ((c .count .ensures))
+returns-3 c = taken-inc (c .before .before .before .before .args .mem .now) (c .before .before .before .before .args .e .now) (c .before .before .before .before .args .s) (c .before .before .before .before .args .eip) (c .before .before .before .before .args .i) _ _ _ (c .before .before .before .before .pre .1 .0) (c .before .before .before .before .pre .1 .1 .0) (c .before .before .before .before .pre .1 .1 .1 .1) _ (c .before .match .keys2) (c .count .ensures)
 
--- src/lib.rt:289:1
 returns-4 : tie.Need-returns-4
-returns-4 c = taken-dec ((c .before .before .before .before .args .mem .now)) ((c .before .before .before .before .args .e .now)) ((c .before .before .before .before .args .s)) ((c .before .before .before .before .args .eip)) ((c .before .before .before .before .args .i)) _ _ _ ((c .before .before .before .before .pre .1 .0)) ((c .before .before .before .before .pre .1 .1 .0)) ((c .before .before .before .before .pre .1 .1 .1 .1)) _ ((c .before .match .keys3)) ((c .count2 .ensures))
+returns-4 c = taken-dec (c .before .before .before .before .args .mem .now) (c .before .before .before .before .args .e .now) (c .before .before .before .before .args .s) (c .before .before .before .before .args .eip) (c .before .before .before .before .args .i) _ _ _ (c .before .before .before .before .pre .1 .0) (c .before .before .before .before .pre .1 .1 .0) (c .before .before .before .before .pre .1 .1 .1 .1) _ (c .before .match .keys3) (c .count2 .ensures)
 
--- src/lib.rt:289:1
 returns-5 : tie.Need-returns-5
-returns-5 c = taken-push ((c .before .before .before .before .before .before .args .mem .now)) ((c .before .before .before .before .before .before .args .e .now)) ((c .before .before .before .before .before .before .args .s)) ((c .before .before .before .before .before .before .args .eip)) ((c .before .before .before .before .before .before .args .i)) _ _ _ ((c .before .before .before .before .before .before .pre .1 .0)) ((c .before .before .before .before .before .before .pre .1 .1 .0)) ((c .before .before .before .before .before .before .pre .1 .1 .1 .1)) _ _ _ ((c .before .before .before .match .keys4)) (search needs) ((c .before .before .register .ensures)) ((c .before .wrapping-add-u32 .ensures)) ((c .push .ensures))
+returns-5 c = taken-push (c .before .before .before .before .before .before .args .mem .now) (c .before .before .before .before .before .before .args .e .now) (c .before .before .before .before .before .before .args .s) (c .before .before .before .before .before .before .args .eip) (c .before .before .before .before .before .before .args .i) _ _ _ (c .before .before .before .before .before .before .pre .1 .0) (c .before .before .before .before .before .before .pre .1 .1 .0) (c .before .before .before .before .before .before .pre .1 .1 .1 .1) _ _ _ (c .before .before .before .match .keys4) (search needs) (c .before .before .register .ensures) (c .before .wrapping-add-u32 .ensures) (c .push .ensures)
 
--- src/lib.rt:289:1
 returns-6 : tie.Need-returns-6
-returns-6 c = taken-pop ((c .before .before .before .before .before .args .mem .now)) ((c .before .before .before .before .before .args .e .now)) ((c .before .before .before .before .before .args .s)) ((c .before .before .before .before .before .args .eip)) ((c .before .before .before .before .before .args .i)) _ _ _ ((c .before .before .before .before .before .pre .1 .0)) ((c .before .before .before .before .before .pre .1 .1 .0)) ((c .before .before .before .before .before .pre .1 .1 .1 .1)) _ _ ((c .before .before .match .keys5)) ((c .before .wrapping-add-u322 .ensures)) ((c .pop .ensures))
+returns-6 c = taken-pop (c .before .before .before .before .before .args .mem .now) (c .before .before .before .before .before .args .e .now) (c .before .before .before .before .before .args .s) (c .before .before .before .before .before .args .eip) (c .before .before .before .before .before .args .i) _ _ _ (c .before .before .before .before .before .pre .1 .0) (c .before .before .before .before .before .pre .1 .1 .0) (c .before .before .before .before .before .pre .1 .1 .1 .1) _ _ (c .before .before .match .keys5) (c .before .wrapping-add-u322 .ensures) (c .pop .ensures)
 
--- src/lib.rt:289:1
 returns-7 : tie.Need-returns-7
-returns-7 c = taken-jump ((c .before .before .before .before .before .args .mem .now)) ((c .before .before .before .before .before .args .e .now)) ((c .before .before .before .before .before .args .s)) ((c .before .before .before .before .before .args .eip)) ((c .before .before .before .before .before .args .i)) _ _ _ ((c .before .before .before .before .before .pre .1 .0)) ((c .before .before .before .before .before .pre .1 .1 .0)) ((c .before .before .before .before .before .pre .1 .1 .1 .1)) _ ((c .before .before .match .keys6)) ((c .before .if1 .left)) ((c .jump-if .ensures))
+returns-7 c = taken-jump (c .before .before .before .before .before .args .mem .now) (c .before .before .before .before .before .args .e .now) (c .before .before .before .before .before .args .s) (c .before .before .before .before .before .args .eip) (c .before .before .before .before .before .args .i) _ _ _ (c .before .before .before .before .before .pre .1 .0) (c .before .before .before .before .before .pre .1 .1 .0) (c .before .before .before .before .before .pre .1 .1 .1 .1) _ (c .before .before .match .keys6) (c .before .if1 .left) (c .jump-if .ensures)
 
--- src/lib.rt:289:1
 returns-8 : tie.Need-returns-8
-returns-8 c = taken-return ((c .before .before .before .before .before .args .mem .now)) ((c .before .before .before .before .before .args .e .now)) ((c .before .before .before .before .before .args .s)) ((c .before .before .before .before .before .args .eip)) ((c .before .before .before .before .before .args .i)) _ _ _ ((c .before .before .before .before .before .pre .1 .0)) ((c .before .before .before .before .before .pre .1 .1 .0)) ((c .before .before .before .before .before .pre .1 .1 .1 .1)) _ _ ((c .before .before .match .keys7)) ((c .before .wrapping-add-u323 .ensures)) ((c .pop2 .ensures))
+returns-8 c = taken-return (c .before .before .before .before .before .args .mem .now) (c .before .before .before .before .before .args .e .now) (c .before .before .before .before .before .args .s) (c .before .before .before .before .before .args .eip) (c .before .before .before .before .before .args .i) _ _ _ (c .before .before .before .before .before .pre .1 .0) (c .before .before .before .before .before .pre .1 .1 .0) (c .before .before .before .before .before .pre .1 .1 .1 .1) _ _ (c .before .before .match .keys7) (c .before .wrapping-add-u323 .ensures) (c .pop2 .ensures)
 
--- src/lib.rt:289:1
 returns-9 : tie.Need-returns-9
-returns-9 c = ((c .by-opcode .ensures)) ((c .before .before .before .before .args .s))
+returns-9 c = (c .by-opcode .ensures) (c .before .before .before .before .args .s)
 
 pub plain-spec : {M : Type 1} → statement M
 plain-spec =

@@ -1,82 +1,53 @@
-use Rattle.shortcut.proofs.Taken.{not-taken, taken-to, taken-from, taken-address, taken-load, taken-inc, taken-dec, taken-push, taken-pop, taken-return, taken-jump, taken-number, taken-near, taken-far, taken-call}
+use Rattle.shortcut.proofs.Taken.{not-taken, taken-to, taken-from, taken-address}
 use borrow.Author.Needs.{needs}
-use borrow.Author.Tests.{lt-ltb, le-ltb, le-leb, lt-leb, eq-eqb, ne-eqb, not-true, not-false, ltb-true}
-use native.Mathlib.Omega.{arith}
-use mathlib.Core.Path.{_≡_, refl, sym, ap, _∙_}
 use Rattle.shortcut.proofs.quick.Statement.{statement}
 use Rattle.shortcut.proofs.quick.Tie as tie
-use Rattle.shortcut.proofs.quick.Reads as reads
-use Rattle.shortcut.proofs.quick.Lts as lts
-use Rattle.encoding.proofs.class_in.Reads as class-in-reads
-use Rattle.shortcut.proofs.address_of.Reads as address-of-reads
-use Rattle.shortcut.proofs.bytes.byte.Reads as byte-reads
-use Rattle.shortcut.proofs.from_operand.Reads as from-operand-reads
-use Rattle.shortcut.proofs.none.Reads as none-reads
-use Rattle.shortcut.proofs.operation.Reads as operation-reads
-use Rattle.shortcut.proofs.plain.Reads as plain-reads
-use Rattle.shortcut.proofs.to_operand.Reads as to-operand-reads
 
--- src/lib.rt:319:9
 byte-requires : tie.Need-byte-requires
 byte-requires c κs = search needs
 
--- src/lib.rt:320:30
 add-byte : tie.Need-add-byte
 add-byte c = search needs
 
--- src/lib.rt:320:9
 byte-requires-2 : tie.Need-byte-requires-2
 byte-requires-2 c κs = search needs
 
--- src/lib.rt:321:9
 class-in-requires : tie.Need-class-in-requires
 class-in-requires c κs = search needs
 
--- src/lib.rt:323:43
 operation-requires : tie.Need-operation-requires
 operation-requires c κs = search needs
 
--- src/lib.rt:323:9
 to-operand-requires : tie.Need-to-operand-requires
 to-operand-requires c κs = search needs
 
--- src/lib.rt:323:9
 returns : tie.Need-returns
-returns c = taken-to ((c .before .before .before .before .before .before .before .before .args .mem .now)) ((c .before .before .before .before .before .before .before .before .args .e .now)) ((c .before .before .before .before .before .before .before .before .args .s)) ((c .before .before .before .before .before .before .before .before .args .eip)) ((c .before .before .before .before .before .before .before .before .args .i)) _ _ _ ((c .before .before .before .before .before .byte .ensures .0)) ((c .before .before .before .before .byte2 .ensures .0)) ((c .before .before .before .class-in .ensures)) _ ((c .before .before .if1 .taken)) _ ((c .before .operation .ensures)) ((c .to-operand .ensures))
+returns c = taken-to (c .before .before .before .before .before .before .before .before .args .mem .now) (c .before .before .before .before .before .before .before .before .args .e .now) (c .before .before .before .before .before .before .before .before .args .s) (c .before .before .before .before .before .before .before .before .args .eip) (c .before .before .before .before .before .before .before .before .args .i) _ _ _ (c .before .before .before .before .before .byte .ensures .0) (c .before .before .before .before .byte2 .ensures .0) (c .before .before .before .class-in .ensures) _ (c .before .before .if1 .taken) _ (c .before .operation .ensures) (c .to-operand .ensures)
 
--- src/lib.rt:326:45
 operation-requires-2 : tie.Need-operation-requires-2
 operation-requires-2 c κs = search needs
 
--- src/lib.rt:326:9
 from-operand-requires : tie.Need-from-operand-requires
 from-operand-requires c κs = search needs
 
--- src/lib.rt:326:9
 returns-2 : tie.Need-returns-2
-returns-2 c = taken-from ((c .before .before .before .before .before .before .before .before .before .args .mem .now)) ((c .before .before .before .before .before .before .before .before .before .args .e .now)) ((c .before .before .before .before .before .before .before .before .before .args .s)) ((c .before .before .before .before .before .before .before .before .before .args .eip)) ((c .before .before .before .before .before .before .before .before .before .args .i)) _ _ _ ((c .before .before .before .before .before .before .byte .ensures .0)) ((c .before .before .before .before .before .byte2 .ensures .0)) ((c .before .before .before .before .class-in .ensures)) _ ((c .before .before .if2 .taken)) _ ((c .before .operation2 .ensures)) ((c .from-operand .ensures))
+returns-2 c = taken-from (c .before .before .before .before .before .before .before .before .before .args .mem .now) (c .before .before .before .before .before .before .before .before .before .args .e .now) (c .before .before .before .before .before .before .before .before .before .args .s) (c .before .before .before .before .before .before .before .before .before .args .eip) (c .before .before .before .before .before .before .before .before .before .args .i) _ _ _ (c .before .before .before .before .before .before .byte .ensures .0) (c .before .before .before .before .before .byte2 .ensures .0) (c .before .before .before .before .class-in .ensures) _ (c .before .before .if2 .taken) _ (c .before .operation2 .ensures) (c .from-operand .ensures)
 
--- src/lib.rt:330:13
 none-requires : tie.Need-none-requires
 none-requires c κs = search needs
 
--- src/lib.rt:330:13
 returns-3 : tie.Need-returns-3
-returns-3 c = not-taken ((c .before .before .before .before .before .before .before .before .before .before .args .mem .now)) ((c .before .before .before .before .before .before .before .before .before .before .args .e .now)) ((c .before .before .before .before .before .before .before .before .before .before .args .s)) ((c .before .before .before .before .before .before .before .before .before .before .args .eip)) ((c .before .before .before .before .before .before .before .before .before .before .args .i)) _ ((c .none .ensures))
+returns-3 c = not-taken (c .before .before .before .before .before .before .before .before .before .before .args .mem .now) (c .before .before .before .before .before .before .before .before .before .before .args .e .now) (c .before .before .before .before .before .before .before .before .before .before .args .s) (c .before .before .before .before .before .before .before .before .before .before .args .eip) (c .before .before .before .before .before .before .before .before .before .before .args .i) _ (c .none .ensures)
 
--- src/lib.rt:332:9
 address-of-requires : tie.Need-address-of-requires
 address-of-requires c κs = search needs
 
--- src/lib.rt:332:9
 returns-4 : tie.Need-returns-4
-returns-4 c = taken-address ((c .before .before .before .before .before .before .before .before .before .before .args .mem .now)) ((c .before .before .before .before .before .before .before .before .before .before .args .e .now)) ((c .before .before .before .before .before .before .before .before .before .before .args .s)) ((c .before .before .before .before .before .before .before .before .before .before .args .eip)) ((c .before .before .before .before .before .before .before .before .before .before .args .i)) _ _ _ ((c .before .before .before .before .before .before .before .byte .ensures .0)) ((c .before .before .before .before .before .before .byte2 .ensures .0)) ((c .before .before .before .before .before .class-in .ensures)) _ ((c .before .before .if3 .taken)) ((c .before .if4 .left)) ((c .address-of .ensures))
+returns-4 c = taken-address (c .before .before .before .before .before .before .before .before .before .before .args .mem .now) (c .before .before .before .before .before .before .before .before .before .before .args .e .now) (c .before .before .before .before .before .before .before .before .before .before .args .s) (c .before .before .before .before .before .before .before .before .before .before .args .eip) (c .before .before .before .before .before .before .before .before .before .before .args .i) _ _ _ (c .before .before .before .before .before .before .before .byte .ensures .0) (c .before .before .before .before .before .before .byte2 .ensures .0) (c .before .before .before .before .before .class-in .ensures) _ (c .before .before .if3 .taken) (c .before .if4 .left) (c .address-of .ensures)
 
--- src/lib.rt:334:5
 plain-requires : tie.Need-plain-requires
 plain-requires c κs = search needs
 
--- src/lib.rt:315:1
 returns-5 : tie.Need-returns-5
 returns-5 c = search needs
 

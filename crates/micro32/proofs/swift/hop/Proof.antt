@@ -1,91 +1,64 @@
 use Prim.Native.Nat.{_<_}
 use Rattle.micro32.proofs.Swiftly.{unmoved, hopped, room-for}
 use borrow.Author.Needs.{needs}
-use borrow.Author.Tests.{lt-ltb, le-ltb, le-leb, lt-leb, eq-eqb, ne-eqb, not-true, not-false, ltb-true}
-use native.Mathlib.Omega.{arith}
-use mathlib.Core.Path.{_≡_, refl, sym, ap, _∙_}
+use borrow.Author.Tests.{not-false}
+use mathlib.Core.Path.{refl}
 use Rattle.micro32.proofs.swift.hop.Statement.{statement}
 use Rattle.micro32.proofs.swift.hop.Tie as tie
-use Rattle.micro32.proofs.swift.hop.Reads as reads
-use Rattle.micro32.proofs.swift.hop.Lts as lts
-use Rattle.micro32.proofs.swift.next.Reads as next-reads
-use Rattle.micro32.proofs.swift.save.Reads as save-reads
-use Rattle.micro32.proofs.swift.seek.Reads as seek-reads
-use Rattle.shortcut.proofs.effect.deposit.Reads as deposit-reads
-use Rattle.shortcut.proofs.effect.result.Reads as result-reads
-use Rattle.shortcut.proofs.quick.Reads as quick-reads
 
--- src/swift.rt:174:9
 cast-quick : tie.Need-cast-quick
 cast-quick c = search needs
 
--- src/swift.rt:174:27
 cast-quick-2 : tie.Need-cast-quick-2
 cast-quick-2 c = search needs
 
--- src/swift.rt:174:9
 add-quick : tie.Need-add-quick
 add-quick c = search needs
 
--- src/swift.rt:168:9
 quick-requires : tie.Need-quick-requires
-quick-requires c κs = (room-for _ ((c .before .before .before .before .before .before .before .args .e .now)) ((c .before .before .before .before .before .before .before .args .c)) ((c .before .before .before .before .before .before .before .args .r)) ((c .before .before .before .before .before .before .before .pre .1 .1 .0)) _ ((c .before .before .before .before .before .before .before .pre .1 .1 .1 .1 .1)) ((c .before .before .before .before .before .before .before .pre .1 .1 .1 .0)) ((c .before .before .before .before .before .before .before .pre .1 .1 .1 .1 .0)) refl, (c .before .before .before .before .before .before .before .pre .1 .0))
+quick-requires c κs = (room-for _ (c .before .before .before .before .before .before .before .args .e .now) (c .before .before .before .before .before .before .before .args .c) (c .before .before .before .before .before .before .before .args .r) (c .before .before .before .before .before .before .before .pre .1 .1 .0) _ (c .before .before .before .before .before .before .before .pre .1 .1 .1 .1 .1) (c .before .before .before .before .before .before .before .pre .1 .1 .1 .0) (c .before .before .before .before .before .before .before .pre .1 .1 .1 .1 .0) refl, (c .before .before .before .before .before .before .before .pre .1 .0))
 
--- src/swift.rt:177:9
 same-length : tie.Need-same-length
 same-length c = search needs
 
--- src/swift.rt:177:9
 same-length-2 : tie.Need-same-length-2
 same-length-2 c = search needs
 
--- src/swift.rt:177:9
 returns : tie.Need-returns
-returns c = unmoved _ _ ((c .before .before .before .before .before .before .before .before .before .before .args .c)) ((c .before .before .before .before .before .before .before .before .before .before .args .r)) ((c .before .before .before .before .before .before .before .before .before .before .pre .1 .1 .0))
+returns c = unmoved _ _ (c .before .before .before .before .before .before .before .before .before .before .args .c) (c .before .before .before .before .before .before .before .before .before .before .args .r) (c .before .before .before .before .before .before .before .before .before .before .pre .1 .1 .0)
 
--- src/swift.rt:182:9
 seek-requires : tie.Need-seek-requires
 seek-requires c κs = search needs
 
--- src/swift.rt:184:9
 same-length-3 : tie.Need-same-length-3
 same-length-3 c = search needs
 
--- src/swift.rt:184:9
 same-length-4 : tie.Need-same-length-4
 same-length-4 c = search needs
 
--- src/swift.rt:184:9
 returns-2 : tie.Need-returns-2
-returns-2 c = unmoved _ _ ((c .before .before .before .before .before .before .before .before .before .before .before .before .before .before .args .c)) ((c .before .before .before .before .before .before .before .before .before .before .before .before .before .before .args .r)) ((c .before .before .before .before .before .before .before .before .before .before .before .before .before .before .pre .1 .1 .0))
+returns-2 c = unmoved _ _ (c .before .before .before .before .before .before .before .before .before .before .before .before .before .before .args .c) (c .before .before .before .before .before .before .before .before .before .before .before .before .before .before .args .r) (c .before .before .before .before .before .before .before .before .before .before .before .before .before .before .pre .1 .1 .0)
 
--- src/swift.rt:189:9
 result-requires : tie.Need-result-requires
 result-requires c κs = search needs
 
--- src/swift.rt:191:5
 deposit-requires : tie.Need-deposit-requires
 deposit-requires c κs = search needs
 
--- src/swift.rt:192:9
 save-requires : tie.Need-save-requires
-save-requires c κs = (((c .before .before .before .before .before .before .before .before .before .before .before .before .before .before .before .before .before .before .before .before .before .pre .1 .1 .0)), (c .before .before .before .before .before .before .before .before .before .seek .ensures .0))
+save-requires c κs = ((c .before .before .before .before .before .before .before .before .before .before .before .before .before .before .before .before .before .before .before .before .before .pre .1 .1 .0), (c .before .before .before .before .before .before .before .before .before .seek .ensures .0))
 
--- src/swift.rt:196:18
 next-requires : tie.Need-next-requires
 next-requires c κs = search needs
 
--- src/swift.rt:161:1
 same-length-5 : tie.Need-same-length-5
 same-length-5 c = search needs
 
--- src/swift.rt:161:1
 same-length-6 : tie.Need-same-length-6
 same-length-6 c = search needs
 
--- src/swift.rt:161:1
 returns-3 : tie.Need-returns-3
-returns-3 c = let v : ((c .before .before .before .before .before .before .before .before .before .before .before .before .before .seek .result .value)) < 4294967296 = search needs in hopped _ _ ((c .before .before .before .before .before .before .before .before .before .before .before .before .before .before .before .before .before .before .before .before .before .before .before .before .before .args .c)) ((c .before .before .before .before .before .before .before .before .before .before .before .before .before .before .before .before .before .before .before .before .before .before .before .before .before .args .r)) ((c .before .before .before .before .before .before .before .before .before .before .before .before .before .before .before .before .before .before .before .before .before .before .before .before .before .pre .1 .1 .0)) ((c .before .before .before .before .before .before .before .before .before .before .before .before .before .before .before .before .before .before .before .before .before .before .before .before .before .pre .0)) ((c .before .before .before .before .before .before .before .before .before .before .before .before .before .before .before .before .before .before .before .before .before .before .before .before .before .pre .1 .1 .1 .1 .1)) ((c .before .before .before .before .before .before .before .before .before .before .before .before .before .before .before .before .before .before .before .before .before .before .before .before .before .pre .1 .1 .1 .0)) ((c .before .before .before .before .before .before .before .before .before .before .before .before .before .before .before .before .before .before .before .before .before .before .before .before .before .pre .1 .1 .1 .1 .0)) _ ((c .before .before .before .before .before .before .before .before .before .before .before .before .before .before .before .before .before .quick .result)) ((c .before .before .before .before .before .before .before .before .before .before .before .before .before .seek .result)) refl ((c .before .before .before .before .before .before .before .before .before .before .before .before .before .before .before .before .before .quick .ensures)) (not-false _ ((c .before .before .before .before .before .before .before .before .before .before .before .before .before .before .before .if1 .left))) ((c .before .before .before .before .before .before .before .before .before .before .before .before .before .seek .ensures .1) (not-false _ ((c .before .before .before .before .before .before .before .before .before .before .before .if2 .left)))) v _ ((c .before .before .before .before .before .before .before .before .before .before .result .ensures)) ((c .before .before .before .save .ensures .0)) ((c .before .before .before .before .before .before .before .deposit .ensures)) ((c .next .ensures)) refl ((c .before .before .before .save .ensures .1))
+returns-3 c = let v : (c .before .before .before .before .before .before .before .before .before .before .before .before .before .seek .result .value) < 4294967296 = search needs in hopped _ _ (c .before .before .before .before .before .before .before .before .before .before .before .before .before .before .before .before .before .before .before .before .before .before .before .before .before .args .c) (c .before .before .before .before .before .before .before .before .before .before .before .before .before .before .before .before .before .before .before .before .before .before .before .before .before .args .r) (c .before .before .before .before .before .before .before .before .before .before .before .before .before .before .before .before .before .before .before .before .before .before .before .before .before .pre .1 .1 .0) (c .before .before .before .before .before .before .before .before .before .before .before .before .before .before .before .before .before .before .before .before .before .before .before .before .before .pre .0) (c .before .before .before .before .before .before .before .before .before .before .before .before .before .before .before .before .before .before .before .before .before .before .before .before .before .pre .1 .1 .1 .1 .1) (c .before .before .before .before .before .before .before .before .before .before .before .before .before .before .before .before .before .before .before .before .before .before .before .before .before .pre .1 .1 .1 .0) (c .before .before .before .before .before .before .before .before .before .before .before .before .before .before .before .before .before .before .before .before .before .before .before .before .before .pre .1 .1 .1 .1 .0) _ (c .before .before .before .before .before .before .before .before .before .before .before .before .before .before .before .before .before .quick .result) (c .before .before .before .before .before .before .before .before .before .before .before .before .before .seek .result) refl (c .before .before .before .before .before .before .before .before .before .before .before .before .before .before .before .before .before .quick .ensures) (not-false _ (c .before .before .before .before .before .before .before .before .before .before .before .before .before .before .before .if1 .left)) ((c .before .before .before .before .before .before .before .before .before .before .before .before .before .seek .ensures .1) (not-false _ (c .before .before .before .before .before .before .before .before .before .before .before .if2 .left))) v _ (c .before .before .before .before .before .before .before .before .before .before .result .ensures) (c .before .before .before .save .ensures .0) (c .before .before .before .before .before .before .before .deposit .ensures) (c .next .ensures) refl (c .before .before .before .save .ensures .1)
 
 pub hop-spec : {M : Type 1} → statement M
 hop-spec =

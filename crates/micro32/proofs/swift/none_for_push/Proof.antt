@@ -1,19 +1,12 @@
-use borrow.Author.Needs.{needs}
-use borrow.Author.Tests.{lt-ltb, le-ltb, le-leb, lt-leb, eq-eqb, ne-eqb, not-true, not-false, ltb-true}
-use native.Mathlib.Omega.{arith}
-use mathlib.Core.Path.{_≡_, refl, sym, ap, _∙_}
+use borrow.Author.Tests.{eq-eqb, ne-eqb}
 use Rattle.micro32.proofs.swift.none_for_push.Statement.{statement}
 use Rattle.micro32.proofs.swift.none_for_push.Tie as tie
-use Rattle.micro32.proofs.swift.none_for_push.Reads as reads
-use Rattle.micro32.proofs.swift.none_for_push.Lts as lts
 
--- src/swift.rt:68:1
 returns : tie.Need-returns
-returns c = rw (eq-eqb _ _ ((c .if1 .taken)))
+returns c = rw (eq-eqb _ _ (c .if1 .taken))
 
--- src/swift.rt:68:1
 returns-2 : tie.Need-returns-2
-returns-2 c = rw (ne-eqb _ _ ((c .if1 .left)))
+returns-2 c = rw (ne-eqb _ _ (c .if1 .left))
 
 pub none-for-push-spec : {M : Type 1} → statement M
 none-for-push-spec = tie.close (tie.spec returns returns-2)

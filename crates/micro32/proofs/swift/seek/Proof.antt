@@ -1,67 +1,46 @@
 use borrow.Author.Needs.{needs}
-use borrow.Author.Tests.{lt-ltb, le-ltb, le-leb, lt-leb, eq-eqb, ne-eqb, not-true, not-false, ltb-true}
-use native.Mathlib.Omega.{arith}
-use mathlib.Core.Path.{_≡_, refl, sym, ap, _∙_}
+use mathlib.Core.Path.{refl, sym, _∙_}
 use Prim.Native.Nat.{_<_}
 use Rattle.micro32.proofs.Seeking.{none-reached, reached, near-enough, ready-at}
 use mathlib.Core.Bool.{false≢true}
 use Rattle.micro32.proofs.swift.seek.Statement.{statement}
 use Rattle.micro32.proofs.swift.seek.Tie as tie
-use Rattle.micro32.proofs.swift.seek.Reads as reads
-use Rattle.micro32.proofs.swift.seek.Lts as lts
-use Rattle.micro32.proofs.swift.load.Reads as load-reads
-use Rattle.micro32.proofs.swift.none_for_push.Reads as none-for-push-reads
-use Rattle.micro32.proofs.swift.unsought.Reads as unsought-reads
-use Rattle.paging.proofs.Physical.index.Reads as index-reads
-use Rattle.paging.proofs.quiet.reach.Reads as reach-reads
 
--- src/swift.rt:80:9
 returns : tie.Need-returns
-returns c = (search needs, λ _. none-reached _ _ ((c .before .before .before .args .p)) _ ((c .if1 .taken)) refl)
+returns c = (search needs, λ _. none-reached _ _ (c .before .before .before .args .p) _ (c .if1 .taken) refl)
 
--- src/swift.rt:87:9
 unsought-requires : tie.Need-unsought-requires
 unsought-requires c κs = search needs
 
--- src/swift.rt:87:9
 returns-2 : tie.Need-returns-2
-returns-2 c = ((c .unsought .ensures .1), λ h. absurd (false≢true (sym ((c .unsought .ensures .0)) ∙ h)))
+returns-2 c = ((c .unsought .ensures .1), λ h. absurd (false≢true (sym (c .unsought .ensures .0) ∙ h)))
 
--- src/swift.rt:89:9
 reach-requires : tie.Need-reach-requires
 reach-requires c κs = search needs
 
--- src/swift.rt:90:24
 enum-known-q : tie.Need-enum-known-q
 enum-known-q c = search needs
 
--- src/swift.rt:91:9
 enum-told : tie.Need-enum-told
 enum-told c = search needs
 
--- src/swift.rt:91:9
 unsought-requires-2 : tie.Need-unsought-requires-2
 unsought-requires-2 c κs = search needs
 
--- src/swift.rt:91:9
 returns-3 : tie.Need-returns-3
-returns-3 c = ((c .unsought2 .ensures .1), λ h. absurd (false≢true (sym ((c .unsought2 .ensures .0)) ∙ h)))
+returns-3 c = ((c .unsought2 .ensures .1), λ h. absurd (false≢true (sym (c .unsought2 .ensures .0) ∙ h)))
 
--- src/swift.rt:95:13
 index-requires : tie.Need-index-requires
 index-requires c κs = search needs
 
--- src/swift.rt:96:40
 load-requires : tie.Need-load-requires
 load-requires c κs = search needs
 
--- src/swift.rt:96:16
 none-for-push-requires : tie.Need-none-for-push-requires
 none-for-push-requires c κs = search needs
 
--- src/swift.rt:75:1
 returns-4 : tie.Need-returns-4
-returns-4 c = let s : ((c .before .before .before .before .before .before .before .before .before .before .before .before .before .before .before .args .p .at)) < 4294967296 = search needs in ((c .before .before .index .ensures .1), λ _. reached _ _ ((c .before .before .before .before .before .before .before .before .before .before .before .before .before .before .before .args .p)) ((c .before .before .before .before .before .before .before .before .before .before .before .before .before .before .before .pre)) s _ (ready-at ((c .before .before .before .before .q .given .1)) ((c .before .before .before .before .before .before .reach .ensures))) _ _ ((c .before .before .before .before .before .before .before .before .before .before .before .before .if1 .left)) (near-enough _ _ ((c .before .before .before .before .before .before .before .before .before .if2 .left))) ((c .before .load .ensures)) ((c .before .before .index .ensures .0)) ((c .none-for-push .ensures)))
+returns-4 c = let s : (c .before .before .before .before .before .before .before .before .before .before .before .before .before .before .before .args .p .at) < 4294967296 = search needs in ((c .before .before .index .ensures .1), λ _. reached _ _ (c .before .before .before .before .before .before .before .before .before .before .before .before .before .before .before .args .p) (c .before .before .before .before .before .before .before .before .before .before .before .before .before .before .before .pre) s _ (ready-at (c .before .before .before .before .q .given .1) (c .before .before .before .before .before .before .reach .ensures)) _ _ (c .before .before .before .before .before .before .before .before .before .before .before .before .if1 .left) (near-enough _ _ (c .before .before .before .before .before .before .before .before .before .if2 .left)) (c .before .load .ensures) (c .before .before .index .ensures .0) (c .none-for-push .ensures))
 
 pub seek-spec : {M : Type 1} → statement M
 seek-spec =

@@ -1,50 +1,36 @@
-use Rattle.paging.proofs.Settling.{quiet-at, quiet-flat, page-stays, flat-stays, no-page-ok}
+use Rattle.paging.proofs.Settling.{quiet-at}
 use borrow.Author.Needs.{needs}
-use borrow.Author.Tests.{lt-ltb, le-ltb, le-leb, lt-leb, eq-eqb, ne-eqb, not-true, not-false, ltb-true}
-use native.Mathlib.Omega.{arith}
-use mathlib.Core.Path.{_≡_, refl, sym, ap, _∙_}
+use borrow.Author.Tests.{not-false}
+use mathlib.Core.Path.{refl, sym, _∙_}
 use Rattle.paging.proofs.quiet.on_page.Statement.{statement}
 use Rattle.paging.proofs.quiet.on_page.Tie as tie
-use Rattle.paging.proofs.quiet.on_page.Reads as reads
-use Rattle.paging.proofs.quiet.on_page.Lts as lts
-use Rattle.paging.proofs.quiet.entries.Reads as entries-reads
-use Rattle.paging.proofs.quiet.usable.Reads as usable-reads
 
--- src/quiet.rt:90:9
 entries-requires : tie.Need-entries-requires
 entries-requires c κs = search needs
 
--- src/quiet.rt:92:9
 returns : tie.Need-returns
 returns c = search needs
 
--- src/quiet.rt:94:9
 usable-requires : tie.Need-usable-requires
 usable-requires c κs = search needs
 
--- src/quiet.rt:95:9
 returns-2 : tie.Need-returns-2
 returns-2 c = search needs
 
--- src/quiet.rt:97:22
 mul-t10 : tie.Need-mul-t10
 mul-t10 c = search needs
 
--- src/quiet.rt:97:22
 add-t12 : tie.Need-add-t12
 add-t12 c = search needs
 
--- src/quiet.rt:98:21
 cast-if3 : tie.Need-cast-if3
 cast-if3 c = search needs
 
--- src/quiet.rt:99:9
 returns-3 : tie.Need-returns-3
 returns-3 c = search needs
 
--- src/quiet.rt:86:1
 returns-4 : tie.Need-returns-4
-returns-4 c = quiet-at _ ((c .before .before .before .before .before .before .before .before .before .args .c)) _ ((c .before .before .before .before .before .before .before .before .before .args .l)) _ ((c .before .before .before .before .before .before .before .entries .ensures) (not-false _ ((c .before .before .before .before .before .if1 .left)))) ((c .before .before .before .before .before .before .before .before .before .pre)) (sym ((c .before .before .before .before .usable .ensures)) ∙ not-false _ ((c .before .before .before .if2 .left))) _ refl ((c .if3 .left))
+returns-4 c = quiet-at _ (c .before .before .before .before .before .before .before .before .before .args .c) _ (c .before .before .before .before .before .before .before .before .before .args .l) _ ((c .before .before .before .before .before .before .before .entries .ensures) (not-false _ (c .before .before .before .before .before .if1 .left))) (c .before .before .before .before .before .before .before .before .before .pre) (sym (c .before .before .before .before .usable .ensures) ∙ not-false _ (c .before .before .before .if2 .left)) _ refl (c .if3 .left)
 
 pub on-page-spec : {M : Type 1} → statement M
 on-page-spec =

@@ -1,81 +1,54 @@
 use borrow.Author.Needs.{needs}
-use borrow.Author.Tests.{lt-ltb, le-ltb, le-leb, lt-leb, eq-eqb, ne-eqb, not-true, not-false, ltb-true}
 use native.Mathlib.Omega.{arith}
-use mathlib.Core.Path.{_≡_, refl, sym, ap, _∙_}
-use Rattle.shortcut.proofs.Spots.{sib-bare, sib-based, form-sib, form-bare, form-based, spot-register, spot-memory}
-use Rattle.shortcut.specs.Bytes.{sibAt, sibBytes}
+use Rattle.shortcut.proofs.Spots.{sib-bare, sib-based}
 use Rattle.shortcut.proofs.Small.{few, small-fits}
 use Rattle.shortcut.proofs.bytes.sib.Statement.{statement}
 use Rattle.shortcut.proofs.bytes.sib.Tie as tie
-use Rattle.shortcut.proofs.bytes.sib.Reads as reads
-use Rattle.shortcut.proofs.bytes.sib.Lts as lts
-use Rattle.decode.proofs.displacement_bytes.Reads as displacement-bytes-reads
-use Rattle.decode.proofs.index_of.Reads as index-of-reads
-use Rattle.decode.proofs.scale_of.Reads as scale-of-reads
-use Rattle.shortcut.proofs.bytes.byte.Reads as byte-reads
-use Rattle.shortcut.proofs.bytes.displacement.Reads as displacement-reads
-use Rattle.shortcut.proofs.bytes.dword.Reads as dword-reads
-use Rattle.shortcut.proofs.bytes.place.Reads as place-reads
 
--- src/bytes.rt:117:9
 byte-requires : tie.Need-byte-requires
 byte-requires c κs = search needs
 
--- src/bytes.rt:123:17
 index-of-requires : tie.Need-index-of-requires
 index-of-requires c κs = search needs
 
--- src/bytes.rt:124:17
 scale-of-requires : tie.Need-scale-of-requires
 scale-of-requires c κs = search needs
 
--- src/bytes.rt:125:28
 add-dword : tie.Need-add-dword
 add-dword c = search needs
 
--- src/bytes.rt:125:17
 dword-requires : tie.Need-dword-requires
 dword-requires c κs = search needs
 
--- src/bytes.rt:120:17
 place-requires : tie.Need-place-requires
 place-requires c κs = search needs
 
--- src/bytes.rt:119:9
 returns : tie.Need-returns
-returns c = sib-bare _ ((c .before .before .before .before .before .before .before .before .args .e .now)) _ _ ((c .before .before .before .before .before .byte .result)) _ ((c .before .before .before .index-of .result)) ((c .before .before .scale-of .result)) ((c .before .before .before .before .before .byte .ensures .0)) ((c .before .before .before .index-of .ensures)) ((c .before .before .scale-of .ensures)) _ ((c .before .before .before .before .if1 .taken)) ((c .before .dword .ensures)) ((c .place .ensures))
+returns c = sib-bare _ (c .before .before .before .before .before .before .before .before .args .e .now) _ _ (c .before .before .before .before .before .byte .result) _ (c .before .before .before .index-of .result) (c .before .before .scale-of .result) (c .before .before .before .before .before .byte .ensures .0) (c .before .before .before .index-of .ensures) (c .before .before .scale-of .ensures) _ (c .before .before .before .before .if1 .taken) (c .before .dword .ensures) (c .place .ensures)
 
--- src/bytes.rt:134:13
 index-of-requires-2 : tie.Need-index-of-requires-2
 index-of-requires-2 c κs = search needs
 
--- src/bytes.rt:135:13
 scale-of-requires-2 : tie.Need-scale-of-requires-2
 scale-of-requires-2 c κs = search needs
 
--- src/bytes.rt:136:31
 add-displacement : tie.Need-add-displacement
 add-displacement c = search needs
 
--- src/bytes.rt:136:13
 displacement-requires : tie.Need-displacement-requires
 displacement-requires c κs = search needs
 
--- src/bytes.rt:131:13
 place-requires-2 : tie.Need-place-requires-2
 place-requires-2 c κs = search needs
 
--- src/bytes.rt:138:19
 displacement-bytes-requires : tie.Need-displacement-bytes-requires
 displacement-bytes-requires c κs = search needs
 
--- src/bytes.rt:138:15
 add-t21 : tie.Need-add-t21
-add-t21 c = let h = few ((c .before .before .before .before .before .before .before .before .before .args .md)) in small-fits _ (omega (arith, h, (c .displacement-bytes .ensures)))
+add-t21 c = let h = few (c .before .before .before .before .before .before .before .before .before .args .md) in small-fits _ (omega (arith, h, (c .displacement-bytes .ensures)))
 
--- src/bytes.rt:113:1
 returns-2 : tie.Need-returns-2
-returns-2 c = sib-based _ ((c .before .before .before .before .before .before .before .before .before .args .e .now)) _ _ ((c .before .before .before .before .before .before .byte .result)) _ ((c .before .before .before .before .index-of2 .result)) ((c .before .before .before .scale-of2 .result)) ((c .before .before .before .before .before .before .byte .ensures .0)) ((c .before .before .before .before .index-of2 .ensures)) ((c .before .before .before .scale-of2 .ensures)) _ _ ((c .before .before .before .before .before .if1 .left)) ((c .before .before .displacement .ensures)) ((c .displacement-bytes .ensures)) ((c .before .place2 .ensures))
+returns-2 c = sib-based _ (c .before .before .before .before .before .before .before .before .before .args .e .now) _ _ (c .before .before .before .before .before .before .byte .result) _ (c .before .before .before .before .index-of2 .result) (c .before .before .before .scale-of2 .result) (c .before .before .before .before .before .before .byte .ensures .0) (c .before .before .before .before .index-of2 .ensures) (c .before .before .before .scale-of2 .ensures) _ _ (c .before .before .before .before .before .if1 .left) (c .before .before .displacement .ensures) (c .displacement-bytes .ensures) (c .before .place2 .ensures)
 
 pub sib-spec : {M : Type 1} → statement M
 sib-spec =

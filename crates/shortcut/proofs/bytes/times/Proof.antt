@@ -1,39 +1,30 @@
 use borrow.Author.Needs.{needs}
-use borrow.Author.Tests.{lt-ltb, le-ltb, le-leb, lt-leb, eq-eqb, ne-eqb, not-true, not-false, ltb-true}
+use borrow.Author.Tests.{eq-eqb, ne-eqb}
 use native.Mathlib.Omega.{arith}
-use mathlib.Core.Path.{_≡_, refl, sym, ap, _∙_}
+use mathlib.Core.Path.{refl}
 use Rattle.shortcut.proofs.bytes.times.Statement.{statement}
 use Rattle.shortcut.proofs.bytes.times.Tie as tie
-use Rattle.shortcut.proofs.bytes.times.Reads as reads
-use Rattle.shortcut.proofs.bytes.times.Lts as lts
 
--- src/bytes.rt:81:9
 returns : tie.Need-returns
-returns c = rw (eq-eqb _ _ ((c .if1 .taken))) (refl, omega arith)
+returns c = rw (eq-eqb _ _ (c .if1 .taken)) (refl, omega arith)
 
--- src/bytes.rt:84:16
 mul-result : tie.Need-mul-result
 mul-result c = search needs
 
--- src/bytes.rt:84:9
 returns-2 : tie.Need-returns-2
-returns-2 c = rw (ne-eqb _ _ ((c .before .if1 .left)), eq-eqb _ _ ((c .if2 .taken))) (refl, omega arith)
+returns-2 c = rw (ne-eqb _ _ (c .before .if1 .left), eq-eqb _ _ (c .if2 .taken)) (refl, omega arith)
 
--- src/bytes.rt:87:16
 mul-result-2 : tie.Need-mul-result-2
 mul-result-2 c = search needs
 
--- src/bytes.rt:87:9
 returns-3 : tie.Need-returns-3
-returns-3 c = rw (ne-eqb _ _ ((c .before .before .if1 .left)), ne-eqb _ _ ((c .before .if2 .left)), eq-eqb _ _ ((c .if3 .taken))) (refl, omega arith)
+returns-3 c = rw (ne-eqb _ _ (c .before .before .if1 .left), ne-eqb _ _ (c .before .if2 .left), eq-eqb _ _ (c .if3 .taken)) (refl, omega arith)
 
--- src/bytes.rt:89:5
 mul-result-3 : tie.Need-mul-result-3
 mul-result-3 c = search needs
 
--- src/bytes.rt:76:1
 returns-4 : tie.Need-returns-4
-returns-4 c = rw (ne-eqb _ _ ((c .before .before .if1 .left)), ne-eqb _ _ ((c .before .if2 .left)), ne-eqb _ _ ((c .if3 .left))) (refl, omega arith)
+returns-4 c = rw (ne-eqb _ _ (c .before .before .if1 .left), ne-eqb _ _ (c .before .if2 .left), ne-eqb _ _ (c .if3 .left)) (refl, omega arith)
 
 pub times-spec : {M : Type 1} → statement M
 times-spec =

@@ -1,99 +1,74 @@
 use Rattle.shortcut.proofs.Conditions.{no-condition}
-use borrow.Author.Needs.{needs}
-use borrow.Author.Tests.{lt-ltb, le-ltb, le-leb, lt-leb, eq-eqb, ne-eqb, not-true, not-false, ltb-true}
-use native.Mathlib.Omega.{arith}
-use mathlib.Core.Path.{_≡_, refl, sym, ap, _∙_}
-use mathlib.Core.Bool.{false}
-use lib.ListN.{List·getD-eq-default}
-use Rattle.conditions.specs.Conditions.{holds, conditions}
+use Rattle.conditions.specs.Conditions.{holds}
 use Rattle.shortcut.proofs.condition.holds.Statement.{statement}
 use Rattle.shortcut.proofs.condition.holds.Tie as tie
-use Rattle.shortcut.proofs.condition.holds.Reads as reads
-use Rattle.shortcut.proofs.condition.holds.Lts as lts
 
--- src/condition.rt:6:1
 returns : tie.Need-returns
 unfolding holds
-returns c = rw ((c .match .keys1))
+returns c = rw (c .match .keys1)
 
--- src/condition.rt:6:1
 returns-2 : tie.Need-returns-2
 unfolding holds
-returns-2 c = rw ((c .before .match .keys2))
+returns-2 c = rw (c .before .match .keys2)
 
--- src/condition.rt:6:1
 returns-3 : tie.Need-returns-3
 unfolding holds
-returns-3 c = rw ((c .match .keys3))
+returns-3 c = rw (c .match .keys3)
 
--- src/condition.rt:6:1
 returns-4 : tie.Need-returns-4
 unfolding holds
-returns-4 c = rw ((c .before .match .keys4))
+returns-4 c = rw (c .before .match .keys4)
 
--- src/condition.rt:6:1
 returns-5 : tie.Need-returns-5
 unfolding holds
-returns-5 c = rw ((c .match .keys5))
+returns-5 c = rw (c .match .keys5)
 
--- src/condition.rt:6:1
 returns-6 : tie.Need-returns-6
 unfolding holds
-returns-6 c = rw ((c .before .match .keys6))
+returns-6 c = rw (c .before .match .keys6)
 
--- src/condition.rt:6:1
 returns-7 : tie.Need-returns-7
 unfolding holds
-returns-7 c = rw ((c .before .match .keys7))
+returns-7 c = rw (c .before .match .keys7)
 
--- src/condition.rt:6:1
 returns-8 : tie.Need-returns-8
 unfolding holds
-returns-8 c = rw ((c .before .match .keys8))
+returns-8 c = rw (c .before .match .keys8)
 
--- src/condition.rt:6:1
 returns-9 : tie.Need-returns-9
 unfolding holds
-returns-9 c = rw ((c .match .keys9))
+returns-9 c = rw (c .match .keys9)
 
--- src/condition.rt:6:1
 returns-10 : tie.Need-returns-10
 unfolding holds
-returns-10 c = rw ((c .before .match .keys10))
+returns-10 c = rw (c .before .match .keys10)
 
--- src/condition.rt:6:1
 returns-11 : tie.Need-returns-11
 unfolding holds
-returns-11 c = rw ((c .match .keys11))
+returns-11 c = rw (c .match .keys11)
 
--- src/condition.rt:6:1
 returns-12 : tie.Need-returns-12
 unfolding holds
-returns-12 c = rw ((c .before .match .keys12))
+returns-12 c = rw (c .before .match .keys12)
 
--- src/condition.rt:6:1
 returns-13 : tie.Need-returns-13
 unfolding holds
-returns-13 c = rw ((c .before .match .keys13))
+returns-13 c = rw (c .before .match .keys13)
 
--- src/condition.rt:6:1
 returns-14 : tie.Need-returns-14
 unfolding holds
-returns-14 c = rw ((c .before .match .keys14))
+returns-14 c = rw (c .before .match .keys14)
 
--- src/condition.rt:6:1
 returns-15 : tie.Need-returns-15
 unfolding holds
-returns-15 c = rw ((c .before .before .match .keys15))
+returns-15 c = rw (c .before .before .match .keys15)
 
--- src/condition.rt:6:1
 returns-16 : tie.Need-returns-16
 unfolding holds
-returns-16 c = rw ((c .before .before .match .keys16))
+returns-16 c = rw (c .before .before .match .keys16)
 
--- src/condition.rt:6:1
 returns-17 : tie.Need-returns-17
-returns-17 c = no-condition _ ((c .before .args .f)) ((c .match .rest))
+returns-17 c = no-condition _ (c .before .args .f) (c .match .rest)
 
 pub holds-spec : {M : Type 1} → statement M
 holds-spec =
