@@ -34,7 +34,7 @@ static void write_disk(const struct job *job, uint32_t ebp, uint32_t passes) {
 
 /* The line of nine numbers among all that Bochs prints. A Bochs with a debugger waits for the command to go on. */
 static int read_registers(struct registers *end) {
-    FILE *out = popen("echo c | timeout 600 bochs -q -f bochsrc 2>&1", "r");
+    FILE *out = popen("(echo c | timeout 600 bochs -q -f bochsrc) 2>&1", "r");
     char line[512];
     int found = 0;
     while (out && fgets(line, sizeof line, out)) {
