@@ -1,4 +1,4 @@
--- The three demands, about the real step, run and audit. `micro32` is the machine of crates/micro32/specs/Step.antt.
+-- The three demands, about the real step, run and audit. `micro32` is the machine of crates/phases/specs/Step.antt.
 -- Assumes nothing.
 use Prim.Native.Nat.{ℕ, _*_, _≤_}
 use mathlib.Core.Path.{_≡_}
@@ -19,7 +19,7 @@ use Rattle.isolation.specs.Answers.{Lowest, SafeTables}
 use Rattle.isolation.proofs.Kept.{step-still, run-kept}
 use Rattle.isolation.proofs.Ring3.{run-guarded}
 use Rattle.isolation.proofs.Audited.{audit-safe, audit-outside, audit-exposed, audit-bad}
-use Rattle.micro32.specs.Step.{micro32}
+use Rattle.phases.specs.Step.{micro32}
 use native.Mathlib.Omega.{arith}
 
 -- ---- demand 1: every answer is a numbered one, and only Done changes anything

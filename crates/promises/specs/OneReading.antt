@@ -9,7 +9,7 @@ use Rattle.machine.specs.Replies.{numbered}
 use Rattle.machine.specs.Audit.{audit}
 use Rattle.machine.specs.Run.{step, run}
 use Rattle.machine.proofs.Numbers.{numbered-same}
-use Rattle.micro32.specs.Step.{micro32}
+use Rattle.phases.specs.Step.{micro32}
 use Rattle.micro32.specs.declared.Answer.{Answer}
 use Rattle.micro32.specs.Boundary.{Answered, answerOf, ranAnswered}
 use Rattle.micro32.specs.Told.{Told, telling, told, RunTold, runTelling, runTold}

@@ -17,7 +17,7 @@ use Rattle.operands.specs.Operands.{operandWant, operandValue, deposit}
 use Rattle.arithmetic.specs.Arithmetic.{doUnary}
 use Rattle.flow.specs.Flow.{doHalt}
 use Rattle.execute.specs.Execute.{writesOperand, readsOperand, first, second, computeArithmetic, computeMove, computeFlow, computeOther, compute}
-use Rattle.micro32.specs.Step.{allowed, leave, instruction, micro32}
+use Rattle.phases.specs.Step.{allowed, leave, instruction, micro32}
 use Rattle.wrongcpus.specs.Inputs.{notBuiltAlways, neverVaries, nothingMoved, oneRealStep, inventedCount}
 
 pub wrong : T (notBuiltAlways && neverVaries && nothingMoved && oneRealStep && inventedCount)

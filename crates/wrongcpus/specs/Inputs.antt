@@ -9,7 +9,7 @@ use Rattle.machine.specs.declared.Cpu.{Cpu}
 use Rattle.machine.specs.Record.{Mem}
 use Rattle.machine.specs.Replies.{numbered}
 use Rattle.machine.specs.Run.{Outcome, End, step, steps}
-use Rattle.micro32.specs.Step.{micro32}
+use Rattle.phases.specs.Step.{micro32}
 
 -- one page of zeros but for these bytes at its start
 abbrev pub page : ℕ → ℕ → Mem

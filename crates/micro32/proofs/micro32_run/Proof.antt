@@ -43,7 +43,7 @@ use denote.Triple.Walked.{says, needs, Stays, stay-ref, walkOf, goes-ref, Walks,
 use Rattle.machine.specs.declared.Cpu.{Cpu}
 use Rattle.micro32.specs.declared.Advanced.{Advanced}
 use Rattle.machine.specs.Run.{run as runOf}
-use Rattle.micro32.specs.Step.{micro32}
+use Rattle.phases.specs.Step.{micro32}
 use Rattle.micro32.specs.Boundary.{Answered, ranAnswered}
 use Rattle.machine.proofs.Cpu as T
 use Rattle.machine.proofs.Cpu.Laws as T′

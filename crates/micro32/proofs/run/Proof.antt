@@ -1,12 +1,14 @@
-use Rattle.micro32.specs.Step.{micro32}
+use Rattle.phases.specs.Step.{micro32}
 use Rattle.encoding.specs.Encodings.{Classed}
 use Rattle.machine.specs.Run.{run, steps}
 use Rattle.machine.specs.Record.{sound}
 use mathlib.Core.Bool.{true}
 use Prim.Native.Nat.{_≤_, _-_, _<_}
 use lib.ListN.{length}
-use Rattle.micro32.proofs.Runs.{rushed, stepped-sound, few-left}
-use Rattle.micro32.proofs.Steps.{plus, begun, went-on, ended-at, run-bad, spent, sound-size}
+use Rattle.micro32.proofs.Runs.{begun, run-bad, spent, rushed, stepped-sound, few-left}
+use Rattle.phases.proofs.Steps.{sound-size}
+use Rattle.swift.specs.Swift.{after}
+use Rattle.swift.proofs.Onward.{went-on, ended-at}
 use Rattle.machine.proofs.Done.{not-done}
 use Rattle.micro32.specs.Told.{runTold}
 use borrow.Author.Needs.{needs}
@@ -18,7 +20,7 @@ use Rattle.micro32.proofs.run.Tie as tie
 
 abbrev Inv-loop : tie.InvT-loop
 Inv-loop mem₀ budget t n₀ d₀ mem n d =
-    (n ≤ budget) × (length mem ≡ length mem₀) × (Classed t) × (sound mem d ≡ true) × (run micro32 budget mem₀ d₀ ≡ plus n (steps micro32 (budget - n) mem d))
+    (n ≤ budget) × (length mem ≡ length mem₀) × (Classed t) × (sound mem d ≡ true) × (run micro32 budget mem₀ d₀ ≡ after n (steps micro32 (budget - n) mem d))
 
 abbrev μ-loop : tie.MeasureT-loop
 μ-loop mem₀ budget t n₀ d₀ mem n d = budget - n

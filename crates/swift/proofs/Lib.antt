@@ -1,0 +1,6 @@
+mod Packed
+mod Seeking
+mod Swiftly
+pub mod Onward
+mod Rushing
+mod Dashing

@@ -1,0 +1,67 @@
+-- Quick steps one after another are the definition's steps.
+-- Assumes nothing.
+use Prim.Native.Nat.{ℕ, suc, _+_, _-_, _<_, _≤_}
+use mathlib.Core.Path.{_≡_, refl, sym, ap, _∙_}
+use mathlib.Core.Bool.{Bool, true, false, _&&_, false≢true}
+use mathlib.Core.List.{List}
+use native.Mathlib.Omega.{arith}
+use borrow.Author.Tests.{eqb-true, leb-true}
+use lib.Dec.{eqb, leb}
+use Rattle.machine.specs.declared.Control.{Control}
+use Rattle.machine.specs.declared.Cpu.{Cpu}
+use Rattle.machine.specs.declared.Reply.the-variants.{Done}
+use Rattle.machine.specs.Record.{Mem, has, sound, withCore}
+use Rattle.machine.specs.Run.{Outcome, End, step, steps}
+use Rattle.isolation.proofs.Ring3.{step-sound}
+use Rattle.paging.specs.declared.quiet.Kept.{Kept}
+use Rattle.shortcut.specs.Shortcut.{coreFrom}
+use Rattle.swift.specs.declared.Rest.{Rest}
+use Rattle.swift.specs.declared.Swift.{Swift}
+use Rattle.phases.specs.Step.{micro32}
+use Rattle.swift.specs.Swift.{current, SwiftOk, after, Led, RushOk}
+use Rattle.swift.proofs.Onward.{went-on}
+
+-- another page kept changes nothing
+pub through : {m : Mem} {e : List ℕ} {c : Control} {r : Rest} (h : Kept) {m′ : Mem} {e′ : List ℕ} {w : Swift}
+    → SwiftOk m e c (record { eip = r .eip; status = r .status; kept = h }) m′ e′ w → SwiftOk m e c r m′ e′ w
+through h k = record { did = k .did; not = k .not; kept = k .kept }
+
+pub rush-begun : (m : Mem) (e : List ℕ) (c : Control) (r : Rest) → RushOk m e c r 0 m e r
+rush-begun m e c r d hc good = record { holds = good; went = λ b _. none b (steps micro32 b m (current d e r)) refl }
+  where
+    none : (b : ℕ) (x : End) → x ≡ steps micro32 b m (current d e r) → steps micro32 b m (current d e r) ≡ after 0 (steps micro32 (b - 0) m (current d e r))
+    none b x h =
+        let z : b ≡ b - 0 = omega arith in
+        let y : x .count ≡ 0 + x .count = omega arith in
+        sym h ∙ (λ i. record { count = y i; last = x .last }) ∙ ap (after 0) (h ∙ ap (λ (n : ℕ). steps micro32 n m (current d e r)) z)
+
+module _ (m₀ : Mem) (e₀ : List ℕ) (c : Control) (r₀ : Rest) (n : ℕ) (m : Mem) (e : List ℕ) (r : Rest) (k : RushOk m₀ e₀ c r₀ n m e r) (m′ : Mem) (e′ : List ℕ) (w : Swift)
+    (s : SwiftOk m e c r m′ e′ w) where
+  pub rush-on : w .done ≡ true → RushOk m₀ e₀ c r₀ (n + 1) m′ e′ (w .rest)
+  rush-on h d hc good =
+      let l = k d hc good in
+      let o : Outcome = record { reply = Done; cpu = current d e′ (w .rest); mem = m′ } in
+      let f : o ≡ step micro32 m (current d e r) = s .did h d hc (l .holds) in
+      record {
+        holds = rw (← f) at (step-sound micro32 m (current d e r) (l .holds));
+        went = λ b j. went-on b n _ m (current d e r) o (omega arith) (l .went b (omega arith)) f refl;
+      }
+
+  pub rush-ended : w .done ≡ false → RushOk m₀ e₀ c r₀ n m′ e′ (w .rest)
+  rush-ended h d hc good =
+      let l = k d hc good in
+      let q = s .not h in
+      let f : current d e′ (w .rest) ≡ current d e r = λ j. withCore d (coreFrom (q .1 .0 j) (q .1 .1 .0 j) (q .1 .1 .1 j) (has 512 (d .eflags)) (has 1024 (d .eflags))) in
+      record {
+        holds = (λ j. sound (q .0 j) (f j)) ∙ l .holds;
+        went = λ b j. l .went b j ∙ ap (after n) (sym (λ t. steps micro32 (b - n) (q .0 t) (f t)));
+      }
+
+-- ---- from the code's test
+
+pub split-test : (a b x y : ℕ) → (eqb a b && leb x y) ≡ true → (a ≡ b) × (x ≤ y)
+split-test a b x y h = by (eqb a b) refl
+  where
+    by : (z : Bool) → eqb a b ≡ z → (a ≡ b) × (x ≤ y)
+    by true e = (eqb-true _ _ e, leb-true _ _ (rw e at h))
+    by false e = absurd (false≢true (rw e at h))

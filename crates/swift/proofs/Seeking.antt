@@ -1,0 +1,225 @@
+-- The one access of a short form is the definition's two, found with nothing to mark; and a store elsewhere leaves a kept page as it is.
+-- Assumes nothing.
+use Prim.Native.Nat.{ℕ, _+_, _*_, _/_, _%_, _<_, _≤_}
+use mathlib.Core.Path.{_≡_, refl, sym, ap, _∙_}
+use mathlib.Core.Bool.{Bool, true, false, cond, _&&_, _||_, false≢true}
+use mathlib.Core.List.{List, [], _∷_, append-nil}
+use native.Mathlib.Omega.{arith}
+use native.Mathlib.Decide.{ℕ-discrete}
+use borrow.Author.Tests.{ne-eqb, eqb-true, eqb-false, ltb-false}
+use lib.Dec.{eqb, ltb}
+use lib.ListN.{length, set, length-set}
+use lib.Seq.{getD-set-other}
+use Rattle.machine.specs.declared.Control.{Control}
+use Rattle.machine.specs.declared.Want.the-variants.{Nothing}
+use Rattle.machine.specs.Record.{Mem, at}
+use Rattle.machine.specs.Paging.{dwordAt, dirFrame}
+use Rattle.machine.specs.Commit.{Patch, patch, patches}
+use Rattle.paging.specs.declared.Marks.the-variants.{None}
+use Rattle.paging.specs.declared.Physical.{Physical}
+use Rattle.paging.specs.declared.quiet.Kept.{Kept}
+use Rattle.paging.specs.Walked.{patchesOf}
+use Rattle.paging.specs.declared.quiet.Settled.{Settled}
+use Rattle.paging.specs.declared.quiet.Settled.the-variants.{Ready}
+use Rattle.paging.specs.Quiet.{Quiet, SettledOk, Agree, Stays, KeptOk}
+use Rattle.paging.proofs.Settling.{no-page-ok}
+use Rattle.access.specs.declared.Access.{Access}
+use Rattle.access.specs.Located.{asked, trailMarks, placed, puts, nowhere, Held}
+use Rattle.access.proofs.Laws.{nothing-held, near-held, byte-held}
+use Rattle.shortcut.specs.declared.Fast.{Fast}
+use Rattle.shortcut.specs.Shortcut.{asks, wantFirst, wantSecond, stores}
+use Rattle.swift.specs.declared.Sought.{Sought}
+use Rattle.phases.specs.Planned.{accessMarks}
+use Rattle.swift.specs.Swift.{spotted, saved, Reaches}
+
+-- ---- what is asked
+
+module _ (p : Fast) where
+  want-first : (p .access ≡ 0 → ⊥) → asks 4 p ≡ false → wantFirst p ≡ asked (stores p) (p .wide) (p .at)
+  unfolding wantFirst
+  want-first n h = by (asks 2 p) refl
+    where
+      by : (w : Bool) → asks 2 p ≡ w → wantFirst p ≡ asked (stores p) (p .wide) (p .at)
+      by true h′ = rw (ne-eqb _ _ n, h, h′)
+      by false h′ = rw (ne-eqb _ _ n, h, h′)
+
+  want-no-first : asks 4 p ≡ true → wantFirst p ≡ Nothing
+  unfolding wantFirst
+  want-no-first h = rw (eqb-true (p .access) 4 h)
+
+  want-second : asks 4 p ≡ true → wantSecond p ≡ asked (stores p) (p .wide) (p .at)
+  unfolding wantSecond
+  want-second h = rw (eqb-true (p .access) 4 h)
+
+  want-no-second : asks 4 p ≡ false → wantSecond p ≡ Nothing
+  unfolding wantSecond
+  want-no-second h = rw h
+
+-- ---- the access that was found
+
+module _ (m : Mem) (c : Control) (p : Fast) where
+  pub none-reached : (q : Sought) → p .access ≡ 0 → q .value ≡ 0 → Reaches m c p q
+  unfolding wantFirst wantSecond trailMarks patchesOf patches puts saved
+  none-reached q h v = record {
+    one = nowhere;
+    two = nowhere;
+    firstly = rw h (nothing-held m c);
+    secondly = rw h (nothing-held m c);
+    value = sym v;
+    quiet = refl;
+    left = λ x. rw h;
+  }
+
+  module _ (size : length m % 4096 ≡ 0) (small : p .at < 4294967296) (i : Physical) (k : Quiet m c (stores p) (p .at) i) where
+    abbrev found : ℕ → Access
+    found v = record { place = spotted p (i .0); value = v; write = stores p; trail = record { first = k .entries; last = None } }
+
+    found-held : (v : ℕ) → v ≡ cond (p .wide) (dwordAt m (i .0)) (at m (i .0)) → (p .wide ≡ true → p .at % 4096 ≤ 4092) → Held m c (asked (stores p) (p .wide) (p .at)) (found v)
+    found-held v e fits = by (p .wide) refl
+      where
+        by : (w : Bool) → p .wide ≡ w → Held m c (asked (stores p) (p .wide) (p .at)) (found v)
+        by true h = rw h (near-held m c (stores p) (p .at) small size v i (k .entries) (fits h) (rw h at e) (k .walked))
+        by false h = rw h (byte-held m c (stores p) (p .at) small v i (k .entries) (rw h at e) (k .walked))
+
+    found-quiet : (v : ℕ) → accessMarks (found v) m ≡ m
+    unfolding trailMarks patchesOf
+    found-quiet v = ap (λ (ps : List Patch). patches ps m) (append-nil (patchesOf (stores p) (k .entries))) ∙ k .marked
+
+    found-left : (v x : ℕ) → patches (puts (found v) x) m ≡ saved p (i .0) x m
+    unfolding puts saved patches
+    found-left v x = by (stores p)
+      where
+        by : (b : Bool) → patches (cond b (placed (spotted p (i .0)) x) []) m ≡ cond b (patches (placed (spotted p (i .0)) x) m) m
+        by true = refl
+        by false = refl
+
+    pub reached : (q : Sought) (v : ℕ) → (p .access ≡ 0 → ⊥) → (p .wide ≡ true → p .at % 4096 ≤ 4092) → v ≡ cond (p .wide) (dwordAt m (i .0)) (at m (i .0))
+        → q .at ≡ i .0 → q .value ≡ cond (eqb (p .access) 4) 0 v → Reaches m c p q
+    unfolding trailMarks patchesOf puts patches
+    reached q v n fits ev ei eq = by (asks 4 p) refl
+      where
+        by : (b : Bool) → asks 4 p ≡ b → Reaches m c p q
+        by true h = record {
+          one = nowhere;
+          two = found v;
+          firstly = rw (want-no-first p h) (nothing-held m c);
+          secondly = rw (want-second p h) (found-held v ev fits);
+          value = sym (eq ∙ ap (λ (b : Bool). cond b 0 v) h);
+          quiet = found-quiet v;
+          left = λ x. rw ei (found-left v x);
+        }
+        by false h = record {
+          one = found v;
+          two = nowhere;
+          firstly = rw (want-first p n h) (found-held v ev fits);
+          secondly = rw (want-no-second p h) (nothing-held m c);
+          value = sym (eq ∙ ap (λ (b : Bool). cond b 0 v) h);
+          quiet = found-quiet v;
+          left = λ x. rw ei (found-left v x);
+        }
+
+-- ---- a store
+
+pub put-there : (m : Mem) (p : Fast) (i v : ℕ) → p .wide ≡ true
+    → set (set (set (set m i (v % 256)) (i + 1) (v / 256 % 256)) (i + 2) (v / 65536 % 256)) (i + 3) (v / 16777216 % 256) ≡ patches (placed (spotted p i) v) m
+unfolding placed patches patch
+put-there m p i v h = rw h
+
+pub put-byte : (m : Mem) (p : Fast) (i v : ℕ) → p .wide ≡ false → set m i (v % 256) ≡ patches (placed (spotted p i) v) m
+unfolding placed patches patch
+put-byte m p i v h = rw h
+
+-- ---- a kept page, after a store in another frame
+
+-- nothing but four bytes from i on is changed
+module _ (m : Mem) (i v : ℕ) where
+  abbrev one : Mem
+  one = set m i (v % 256)
+
+  abbrev two : Mem
+  two = set one (i + 1) (v / 256 % 256)
+
+  abbrev three : Mem
+  three = set two (i + 2) (v / 65536 % 256)
+
+  abbrev four : Mem
+  four = set three (i + 3) (v / 16777216 % 256)
+
+  four-length : length four ≡ length m
+  four-length = length-set three (i + 3) (v / 16777216 % 256) ∙ length-set two (i + 2) (v / 65536 % 256) ∙ length-set one (i + 1) (v / 256 % 256) ∙ length-set m i (v % 256)
+
+  four-agree : (f : ℕ) → (i / 4096 ≡ f → ⊥) → ((i + 3) / 4096 ≡ f → ⊥) → Agree m four f
+  four-agree f a b j h =
+      let n0 : j ≡ i → ⊥ = λ e. a (omega arith) in
+      let n1 : j ≡ i + 1 → ⊥ = λ e. apart j 1 h a b (omega arith) e in
+      let n2 : j ≡ i + 2 → ⊥ = λ e. apart j 2 h a b (omega arith) e in
+      let n3 : j ≡ i + 3 → ⊥ = λ e. b (omega arith) in
+      getD-set-other three (i + 3) j (v / 16777216 % 256) 0 n3 ∙ getD-set-other two (i + 2) j (v / 65536 % 256) 0 n2
+      ∙ getD-set-other one (i + 1) j (v / 256 % 256) 0 n1 ∙ getD-set-other m i j (v % 256) 0 n0
+    where
+      apart : (j k : ℕ) → j / 4096 ≡ f → (i / 4096 ≡ f → ⊥) → ((i + 3) / 4096 ≡ f → ⊥) → k ≤ 3 → j ≡ i + k → ⊥
+      apart j k h a b l e = by (ℕ-discrete (j / 4096) (i / 4096))
+        where
+          by : Dec (j / 4096 ≡ i / 4096) → ⊥
+          by (yes z) = a (sym z ∙ h)
+          by (no z) = let q : (i + 3) / 4096 ≡ j / 4096 = omega arith in b (q ∙ h)
+
+  one-agree : (f : ℕ) → (i / 4096 ≡ f → ⊥) → Agree m (set m i (v % 256)) f
+  one-agree f a j h = let n : j ≡ i → ⊥ = λ e. a (omega arith) in getD-set-other m i j (v % 256) 0 n
+
+agree-on : (m m′ m″ : Mem) (f : ℕ) → Agree m m′ f → Agree m′ m″ f → Agree m m″ f
+agree-on m m′ m″ f g g′ i h = g′ i h ∙ g i h
+
+-- a page that stays in one memory stays in another that has its entries' frames
+moves-on : (m m′ : Mem) (c : Control) (h : Kept) → length m′ ≡ length m → Agree m m′ (dirFrame c) → Agree m m′ (h .table) → KeptOk m c h → KeptOk m′ c h
+moves-on m m′ c h n g g′ k = record {
+  whole = λ s. rw n (k .whole s);
+  stays = λ s m″ n′ a a′. k .stays s m″ (n′ ∙ n) (agree-on m m′ m″ (dirFrame c) g a) (agree-on m m′ m″ (h .table) g′ a′);
+}
+
+module _ (m : Mem) (c : Control) (h : Kept) (p : Fast) (i v : ℕ) (k : KeptOk m c h) where
+  saved-all : stores p ≡ true → patches (placed (spotted p i) v) m ≡ saved p i v m
+  unfolding saved
+  saved-all s = rw s
+
+  pub unsaved : stores p ≡ false → (m ≡ saved p i v m) × (KeptOk m c h)
+  unfolding saved
+  unsaved s = (rw s, k)
+
+  pub dropped : {m′ : Mem} {r : Kept} → stores p ≡ true → m′ ≡ patches (placed (spotted p i) v) m → r .page ≡ 4294967295 → (m′ ≡ saved p i v m) × (KeptOk m′ c r)
+  dropped s e n = (e ∙ saved-all s, no-page-ok _ c _ n)
+
+  pub stayed : {m′ : Mem} → stores p ≡ true → m′ ≡ patches (placed (spotted p i) v) m → (i / 4096 ≡ h .table → ⊥) → ((i + 3) / 4096 ≡ h .table → ⊥)
+      → (i / 4096 ≡ dirFrame c → ⊥) → ((i + 3) / 4096 ≡ dirFrame c → ⊥) → (m′ ≡ saved p i v m) × (KeptOk m′ c h)
+  unfolding placed patches patch
+  stayed {m′ = m′} s e t t′ d d′ = (e ∙ saved-all s, by (p .wide) refl)
+    where
+      by : (w : Bool) → p .wide ≡ w → KeptOk m′ c h
+      by true w =
+          let e′ : m′ ≡ four m i v = e ∙ rw w refl in
+          rw e′ (moves-on m (four m i v) c h (four-length m i v) (four-agree m i v (dirFrame c) d d′) (four-agree m i v (h .table) t t′) k)
+      by false w =
+          let e′ : m′ ≡ set m i (v % 256) = e ∙ rw w refl in
+          rw e′ (moves-on m (set m i (v % 256)) c h (length-set m i _) (one-agree m i v (dirFrame c) d) (one-agree m i v (h .table) t) k)
+
+-- ---- from the code's tests
+
+or-false : (a b : Bool) → a || b ≡ false → (a ≡ false) × (b ≡ false)
+or-false false b e = (refl, e)
+or-false true b e = absurd (false≢true (sym e))
+
+pub apart-four : (x y t d : ℕ) → (eqb x t || eqb y t || eqb x d || eqb y d) ≡ false
+    → (x ≡ t → ⊥) × ((y ≡ t → ⊥) × ((x ≡ d → ⊥) × (y ≡ d → ⊥)))
+apart-four x y t d e =
+    let e3 = or-false (eqb x t || eqb y t || eqb x d) (eqb y d) e in
+    let e2 = or-false (eqb x t || eqb y t) (eqb x d) (e3 .0) in
+    let e1 = or-false (eqb x t) (eqb y t) (e2 .0) in
+    (eqb-false _ _ (e1 .0), (eqb-false _ _ (e1 .1), (eqb-false _ _ (e2 .1), eqb-false _ _ (e3 .1))))
+
+pub near-enough : (w : Bool) (x : ℕ) → (w && ltb 4092 x) ≡ false → w ≡ true → x ≤ 4092
+near-enough true x e h = ltb-false _ _ e
+near-enough false x e h = absurd (false≢true h)
+
+-- the quick walk's answer, in the case at hand
+pub ready-at : {m : Mem} {c : Control} {w : Bool} {l : ℕ} {t : Settled} {i : Physical} → t ≡ Ready i → SettledOk m c w l t → Quiet m c w l i
+ready-at e h = rw e at h

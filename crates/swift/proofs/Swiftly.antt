@@ -1,0 +1,163 @@
+-- A quick step that says done is the definition's step.
+-- Assumes nothing.
+use Prim.Native.Nat.{ℕ, _+_, _*_, _/_, _%_, _<_, _≤_}
+use mathlib.Core.Path.{_≡_, refl, sym, ap, _∙_}
+use mathlib.Core.Bool.{Bool, true, false, cond, false≢true}
+use mathlib.Core.List.{List, append-nil}
+use native.Mathlib.Omega.{arith}
+use lib.ListN.{length}
+use Rattle.alu.specs.declared.Out.{Out}
+use Rattle.machine.specs.declared.Control.{Control}
+use Rattle.machine.specs.declared.Core.{Core}
+use Rattle.machine.specs.declared.Cpu.{Cpu}
+use Rattle.machine.specs.declared.Reply.the-variants.{Done}
+use Rattle.machine.specs.Record.{Mem, at, wrap, iopl, has, sound, withCore}
+use Rattle.machine.specs.Replies.{isDone}
+use Rattle.machine.specs.Paging.{Byte, At, translate, view}
+use Rattle.machine.specs.Commit.{Patch, patches}
+use Rattle.machine.specs.Run.{step}
+use Rattle.paging.specs.declared.Marks.the-variants.{None}
+use Rattle.paging.specs.declared.Translated.the-variants.{Reached}
+use Rattle.paging.specs.Walked.{patchesOf}
+use Rattle.paging.specs.Quiet.{Quiet, KeptOk}
+use Rattle.access.specs.declared.Trail.{Trail}
+use Rattle.access.specs.Located.{trailMarks, placed, puts}
+use Rattle.access.proofs.Laws.{trail-one}
+use Rattle.decode.proofs.Cap.{fetched-within}
+use Rattle.execute.specs.Execute.{compute}
+use Rattle.shortcut.specs.declared.Fast.{Fast}
+use Rattle.shortcut.specs.Bytes.{Shows}
+use Rattle.shortcut.specs.Forms.{file}
+use Rattle.shortcut.specs.Shortcut.{stores, resultOf, registersAfter, nextOf, coreAfter, Fits, coreFrom, FastOk}
+use Rattle.phases.specs.declared.Planned.{Planned}
+use Rattle.swift.specs.declared.Rest.{Rest}
+use Rattle.swift.specs.declared.Sought.{Sought}
+use Rattle.phases.specs.Step.{micro32}
+use Rattle.phases.specs.Planned.{accessMarks, left}
+use Rattle.swift.specs.Swift.{spotted, saved, Reaches, current, SwiftOk}
+use Rattle.swift.proofs.Packed.{core-back, core-again}
+use Rattle.phases.proofs.Plans.{ready}
+use Rattle.phases.proofs.Steps.{step-on}
+
+saved-same : (p : Fast) (i v v′ : ℕ) (m : Mem) → (stores p ≡ true → v ≡ v′) → saved p i v m ≡ saved p i v′ m
+unfolding saved
+saved-same p i v v′ m h = by (stores p) h
+  where
+    by : (b : Bool) → (b ≡ true → v ≡ v′) → cond b (patches (placed (spotted p i) v) m) m ≡ cond b (patches (placed (spotted p i) v′) m) m
+    by true g = ap (λ (x : ℕ). patches (placed (spotted p i) x) m) (g refl)
+    by false g = refl
+
+module _ (m : Mem) (size : length m % 4096 ≡ 0) (e : List ℕ) (r : Rest) (d : Cpu) (kept : KeptOk m (d .control) (r .kept)) (small : r .eip < 4294967296)
+    (page : r .eip / 4096 ≡ r .kept .page) (room : r .eip % 4096 ≤ 4080) where
+  abbrev c : Control
+  c = d .control
+
+  abbrev eip : ℕ
+  eip = r .eip
+
+  abbrev start : ℕ
+  start = r .kept .base + eip % 4096
+
+  a-page : r .kept .page < 1048576
+  a-page = omega (arith, page)
+
+  -- every byte of the instruction lies on the kept page
+  quiet : (l : ℕ) → l < 4294967296 → l / 4096 ≡ r .kept .page → Quiet m c false l (record { 0 = r .kept .base + l % 4096 })
+  quiet l s h = kept .stays a-page m refl (λ i _. refl) (λ i _. refl) l s h
+
+  shown : Shows (view m c) m eip start
+  unfolding view
+  shown n h =
+      let w : eip + n ≡ wrap (eip + n) = omega arith in
+      let s : eip + n < 4294967296 = omega arith in
+      let g : (eip + n) / 4096 ≡ r .kept .page = same-page n h in
+      let i : r .kept .base + (eip + n) % 4096 ≡ start + n = omega arith in
+      let t : translate m c false (eip + n) ≡ At (start + n) = sym (quiet (eip + n) s g .walked .reached) ∙ ap At i in
+      rw (← w, t)
+    where
+      same-page : (n : ℕ) → n < 16 → (eip + n) / 4096 ≡ r .kept .page
+      same-page n h = let z : (eip + n) / 4096 ≡ eip / 4096 = omega arith in z ∙ page
+
+  module _ (p : Fast) (q : Sought) (fast : FastOk m e (r .status) eip start p) (taken : p .taken ≡ true) (found : Reaches m c p q) (few : q .value < 4294967296)
+      (good : sound m (current d e r) ≡ true) where
+    abbrev int : Bool
+    int = has 512 (d .eflags)
+
+    abbrev dir : Bool
+    dir = has 1024 (d .eflags)
+
+    abbrev k : Core
+    k = coreFrom e eip (r .status) int dir
+
+    fits : Fits (view m c) k p
+    fits = fast taken int dir (view m c) shown
+
+    length-within : (0 < fits .instr .length) × (fits .instr .length ≤ 15)
+    length-within = fetched-within eip (fits .instr .length) (view m c) (fits .instr) (fits .decodes)
+
+    abbrev trail : Trail
+    trail = record { first = quiet eip small page .entries; last = None }
+
+    unmarked : m ≡ patches (trailMarks false trail) m
+    unfolding trailMarks patchesOf
+    unmarked = sym (ap (λ (ps : List Patch). patches ps m) (append-nil (patchesOf false (quiet eip small page .entries))) ∙ quiet eip small page .marked)
+
+    abbrev planned : Planned
+    planned = record {
+      done = true;
+      reply = compute (fits .instr) k (q .value) .reply;
+      core = compute (fits .instr) k (q .value) .core;
+      value = compute (fits .instr) k (q .value) .value;
+      length = fits .instr .length;
+      first = found .one;
+      second = found .two;
+    }
+
+    stored : {m′ : Mem} {o : Out} → o ≡ resultOf p (q .value) (r .status) → m′ ≡ saved p (q .at) (o .value) m → m′ ≡ left planned m
+    unfolding left
+    stored eo em =
+        em ∙ saved-same p (q .at) _ _ m (λ h. ap (λ (x : Out). x .value) eo ∙ sym (fits .value (q .value) few h))
+        ∙ sym (found .left (planned .value)) ∙ ap (λ (x : Mem). patches (puts (found .two) (planned .value)) (patches (puts (found .one) (planned .value)) x)) (sym (found .quiet))
+
+    advanced : {e′ : List ℕ} {o : Out} (r′ : Rest) → o ≡ resultOf p (q .value) (r .status) → e′ ≡ registersAfter p (file e) (o .value) .e → r′ .eip ≡ nextOf p (q .value)
+        → r′ .status ≡ o .status → current d e′ r′ ≡ withCore (current d e r) (planned .core)
+    unfolding coreAfter
+    advanced {o = o} r′ eo ee ei es =
+        let er = ee ∙ ap (λ (x : Out). registersAfter p (file e) (x .value) .e) eo in
+        let et = es ∙ ap (λ (x : Out). x .status) eo in
+        (λ j. withCore d (record { regs = record { e = er j }; eip = ei j; flags = record { status = et j; interrupt = int; direction = dir } }))
+        ∙ sym (ap (withCore d) (fits .core (q .value) few)) ∙ sym (core-again d k (planned .core))
+
+    quick-step : {m′ : Mem} {e′ : List ℕ} {o : Out} (r′ : Rest) → o ≡ resultOf p (q .value) (r .status) → m′ ≡ saved p (q .at) (o .value) m
+        → e′ ≡ registersAfter p (file e) (o .value) .e → r′ .eip ≡ nextOf p (q .value) → r′ .status ≡ o .status
+        → record { reply = Done; cpu = current d e′ r′; mem = m′ } ≡ step micro32 m (current d e r)
+    quick-step r′ eo em ee ei es =
+        let n = length-within in
+        step-on m (current d e r) planned good
+        (ready m (current d e r) (fits .instr) (fits .decodes) (fits .free (iopl (current d e r .eflags)) (d .control .ring)) (found .one) (rw (fits .firstly) (found .firstly)) (found .two) (rw (fits .secondly) (found .secondly))
+        (compute (fits .instr) k (q .value)) (λ j. compute (fits .instr) (sym (core-back d k) j) (sym (found .value) j)) (sym (ap isDone (fits .done (q .value)))))
+        refl trail
+        (trail-one m size c eip small (fits .instr .length) (Reached (record { 0 = start }) (quiet eip small page .entries)) (quiet eip small page .entries) (n .0) (omega (arith, n .1)) (omega (arith, n .1, room)) (quiet eip small page .walked) refl)
+        unmarked (stored eo em) (advanced r′ eo ee ei es)
+
+-- ---- what the code's step answers
+
+module _ (m : Mem) (e : List ℕ) (c : Control) (r : Rest) (kept : KeptOk m c (r .kept)) where
+  pub unmoved : SwiftOk m e c r m e (record { done = false; rest = r })
+  unmoved = record { did = λ h. absurd (false≢true h); not = λ _. (refl, (refl, (refl, refl))); kept = kept }
+
+  pub hopped : (size : length m % 4096 ≡ 0) (small : r .eip < 4294967296) (page : r .eip / 4096 ≡ r .kept .page) (room : r .eip % 4096 ≤ 4080) (i : ℕ) (p : Fast) (q : Sought)
+      → i ≡ r .kept .base + r .eip % 4096 → FastOk m e (r .status) (r .eip) i p → p .taken ≡ true → Reaches m c p q → q .value < 4294967296
+      → {m′ : Mem} {e′ : List ℕ} {o : Out} (r′ : Rest) → o ≡ resultOf p (q .value) (r .status) → m′ ≡ saved p (q .at) (o .value) m
+      → e′ ≡ registersAfter p (file e) (o .value) .e → r′ .eip ≡ nextOf p (q .value) → r′ .status ≡ o .status → KeptOk m′ c (r′ .kept)
+      → SwiftOk m e c r m′ e′ (record { done = true; rest = r′ })
+  hopped size small page room i p q ei′ fast taken found few r′ eo em ee ei es kept′ = record {
+    did = λ _ d hc good.
+        quick-step m size e r d (rw hc kept) small page room p q (rw ei′ at fast) taken (rw hc found) few good r′ eo em ee ei es;
+    not = λ h. absurd (false≢true (sym h));
+    kept = kept′;
+  }
+
+  -- the instruction's bytes are there
+  pub room-for : (i : ℕ) → r .eip < 4294967296 → r .eip / 4096 ≡ r .kept .page → r .eip % 4096 ≤ 4080 → i ≡ r .kept .base + r .eip % 4096 → i + 16 ≤ length m
+  room-for i small page room e = let w : r .kept .base + 4096 < length m + 1 = kept .whole (omega (arith, page)) in omega (arith, w, room)

@@ -1,0 +1,74 @@
+-- The quick way through a run: a step in its short form, on a code page that is kept, where nothing can refuse and nothing is left to mark.
+-- Assumes nothing.
+use Prim.Native.Nat.{ℕ, _+_, _-_, _/_, _%_, _≤_}
+use mathlib.Core.Path.{_≡_}
+use mathlib.Core.Bool.{Bool, true, false, cond}
+use mathlib.Core.List.{List}
+use Rattle.alu.specs.declared.Status.{Status}
+use Rattle.machine.specs.declared.Control.{Control}
+use Rattle.machine.specs.declared.Cpu.{Cpu}
+use Rattle.machine.specs.declared.Reply.the-variants.{Done}
+use Rattle.machine.specs.Record.{Mem, has, sound, withCore}
+use Rattle.machine.specs.Commit.{patches}
+use Rattle.machine.specs.Run.{End, step, steps}
+use Rattle.paging.specs.Quiet.{KeptOk}
+use Rattle.access.specs.declared.Access.{Access}
+use Rattle.access.specs.declared.Place.{Place}
+use Rattle.access.specs.declared.Place.the-variants.{Byte, Near}
+use Rattle.access.specs.Located.{Held, placed, puts}
+use Rattle.shortcut.specs.declared.Fast.{Fast}
+use Rattle.shortcut.specs.Shortcut.{wantFirst, wantSecond, stores, coreFrom}
+use Rattle.swift.specs.declared.Rest.{Rest}
+use Rattle.swift.specs.declared.Swift.{Swift}
+use Rattle.swift.specs.declared.Sought.{Sought}
+use Rattle.phases.specs.Step.{micro32}
+use Rattle.phases.specs.Planned.{accessMarks}
+
+-- ---- the access
+
+abbrev pub spotted : Fast → ℕ → Place
+spotted p i = cond (p .wide) (Near (record { 0 = i })) (Byte (record { 0 = i }))
+
+-- memory once x is stored at index i
+unfoldable pub saved : Fast → ℕ → ℕ → Mem → Mem
+saved p i x m = cond (stores p) (patches (placed (spotted p i) x) m) m
+
+-- both accesses of the instruction are found, and no mark is left to make
+pub record Reaches (m : Mem) (c : Control) (p : Fast) (q : Sought) : Type 0 where
+  pub one : Access
+  pub two : Access
+  pub firstly : Held m c (wantFirst p) one
+  pub secondly : Held m c (wantSecond p) two
+  pub value : one .value ≡ q .value
+  pub quiet : accessMarks two (accessMarks one m) ≡ m
+  pub left : (x : ℕ) → patches (puts two x) (patches (puts one x) m) ≡ saved p (q .at) x m
+
+-- ---- the record, while its parts are kept apart: what a quick step can't change is in d
+
+abbrev pub current : Cpu → List ℕ → Rest → Cpu
+current d e r = withCore d (coreFrom e (r .eip) (r .status) (has 512 (d .eflags)) (has 1024 (d .eflags)))
+
+-- ---- one step: it is the definition's, or nothing is changed
+
+pub record SwiftOk (m : Mem) (e : List ℕ) (c : Control) (r : Rest) (m′ : Mem) (e′ : List ℕ) (w : Swift) : Type 0 where
+  pub did : w .done ≡ true → (d : Cpu) → d .control ≡ c → sound m (current d e r) ≡ true
+      → record { reply = Done; cpu = current d e′ (w .rest); mem = m′ } ≡ step micro32 m (current d e r)
+  pub not : w .done ≡ false → (m′ ≡ m) × ((e′ ≡ e) × ((w .rest .eip ≡ r .eip) × (w .rest .status ≡ r .status)))
+  pub kept : KeptOk m′ c (w .rest .kept)
+
+-- ---- n quick steps are n steps of the definition
+
+abbrev pub after : ℕ → End → End
+after n e = record { count = n + e .count; last = e .last }
+
+pub record Led (m : Mem) (d : Cpu) (e : List ℕ) (r : Rest) (n : ℕ) (m′ : Mem) (e′ : List ℕ) (r′ : Rest) : Type 0 where
+  pub holds : sound m′ (current d e′ r′) ≡ true
+  pub went : (b : ℕ) → n ≤ b → steps micro32 b m (current d e r) ≡ after n (steps micro32 (b - n) m′ (current d e′ r′))
+
+abbrev pub RushOk : Mem → List ℕ → Control → Rest → ℕ → Mem → List ℕ → Rest → Type 0
+RushOk m e c r n m′ e′ r′ = (d : Cpu) → d .control ≡ c → sound m (current d e r) ≡ true → Led m d e r n m′ e′ r′
+
+-- the same, from a record to a record
+pub record DashOk (m : Mem) (c : Cpu) (n : ℕ) (m′ : Mem) (c′ : Cpu) : Type 0 where
+  pub holds : sound m c ≡ true → sound m′ c′ ≡ true
+  pub went : sound m c ≡ true → (b : ℕ) → n ≤ b → steps micro32 b m c ≡ after n (steps micro32 (b - n) m′ c′)
