@@ -1,9 +1,12 @@
 // Sums, differences and logic with their flags, at 8 and 32 bits.
+pub mod brief;
+
 ghost use mathlib.Core.Path.{_≡_};
 ghost use mathlib.Core.Bool.{Bool, true, false};
 ghost use Prim.Native.Nat.{_+_, _-_, _*_, _/_, _%_, _^_, _<_, _≤_};
 ghost use lib.Bits.{bitAnd, bitOr, bitXor};
 ghost use Rattle.alu.specs.Arithmetic.{bit, parity, sum, difference, logic, operation, operate, writes, keepCarry, single, operateOne, signedByte};
+use brief::Brief;
 
 // The six flags that arithmetic sets.
 pub struct Status {
@@ -35,104 +38,49 @@ fn one(c: bool) -> u32
 pub fn add32(a: u32, b: u32, c: bool) -> Out
     ensures { λ r. ⌜ r ≡ sum 32 a b (bit c) ⌝ }
 {
-    let k = one(c);
-    let t = a as u64 + b as u64 + k as u64;
-    let r = (t % 0x1_0000_0000) as u32;
-    let n = 0x8000_0000 <= a;
-    let status = Status {
-        cf: 0x1_0000_0000 <= t,
-        pf: even(r),
-        af: 16 <= a % 16 + b % 16 + k,
-        zf: r == 0,
-        sf: 0x8000_0000 <= r,
-        of: (n == (0x8000_0000 <= b)) & (n != (0x8000_0000 <= r)),
-    };
-    Out { value: r, status }
+    brief::out_in(brief::add32(a, b, c))
 }
 
 pub fn sub32(a: u32, b: u32, c: bool) -> Out
     ensures { λ r. ⌜ r ≡ difference 32 a b (bit c) ⌝ }
 {
-    let k = one(c);
-    let s = b as u64 + k as u64;
-    let r = ((0x1_0000_0000 + a as u64 - s) % 0x1_0000_0000) as u32;
-    let n = 0x8000_0000 <= a;
-    let status = Status {
-        cf: (a as u64) < s,
-        pf: even(r),
-        af: a % 16 < b % 16 + k,
-        zf: r == 0,
-        sf: 0x8000_0000 <= r,
-        of: (n != (0x8000_0000 <= b)) & (n != (0x8000_0000 <= r)),
-    };
-    Out { value: r, status }
+    brief::out_in(brief::sub32(a, b, c))
+}
+
+// What an operation takes over from the flags before it.
+fn kept(s: Status) -> Brief
+    ensures { λ r. ⌜ (r .cf ≡ s .cf) × ((r .af ≡ s .af) × (r .of ≡ s .of)) ⌝ }
+{
+    Brief {
+        cf: s.cf,
+        af: s.af,
+        of: s.of,
+        seen: 0,
+    }
 }
 
 pub fn logic32(r: u32, s: Status) -> Out
     ensures { λ x. ⌜ x ≡ logic 32 s r ⌝ }
 {
-    let status = Status {
-        cf: false,
-        pf: even(r),
-        af: s.af,
-        zf: r == 0,
-        sf: 0x8000_0000 <= r,
-        of: false,
-    };
-    Out { value: r, status }
+    brief::out_in(brief::logic32(r, kept(s)))
 }
 
 pub fn add8(a: u8, b: u8, c: bool) -> Out
     ensures { λ r. ⌜ r ≡ sum 8 a b (bit c) ⌝ }
 {
-    let k = one(c);
-    let t = a as u32 + b as u32 + k;
-    let r = t % 256;
-    let n = 128 <= a;
-    let status = Status {
-        cf: 256 <= t,
-        pf: even(r),
-        af: 16 <= a as u32 % 16 + b as u32 % 16 + k,
-        zf: r == 0,
-        sf: 128 <= r,
-        of: (n == (128 <= b)) & (n != (128 <= r)),
-    };
-    Out { value: r, status }
+    brief::out_in(brief::add8(a, b, c))
 }
 
 pub fn sub8(a: u8, b: u8, c: bool) -> Out
     ensures { λ r. ⌜ r ≡ difference 8 a b (bit c) ⌝ }
 {
-    let k = one(c);
-    let s = b as u32 + k;
-    let r = (256 + a as u32 - s) % 256;
-    let n = 128 <= a;
-    let status = Status {
-        cf: (a as u32) < s,
-        pf: even(r),
-        af: a as u32 % 16 < b as u32 % 16 + k,
-        zf: r == 0,
-        sf: 128 <= r,
-        of: (n != (128 <= b)) & (n != (128 <= r)),
-    };
-    Out { value: r, status }
+    brief::out_in(brief::sub8(a, b, c))
 }
 
 pub fn logic8(r: u8, s: Status) -> Out
     ensures { λ x. ⌜ x ≡ logic 8 s r ⌝ }
 {
-    let status = Status {
-        cf: false,
-        pf: even(r as u32),
-        af: s.af,
-        zf: r == 0,
-        sf: 128 <= r,
-        of: false,
-    };
-    Out {
-        value: r as u32,
-        status,
-    }
+    brief::out_in(brief::logic8(r, kept(s)))
 }
 
 fn operate32(op: u32, a: u32, b: u32, s: Status) -> Out

@@ -74,13 +74,18 @@ fn passes(us: bool, rw: bool, d: bool, x: u32) -> bool
         & (!d | (x / 64 % 2 == 1))
 }
 
-// May the page of these entries be used so?
+// May the page of these entries be used so? Ring 3 has its bits written out, so that they are asked for in one test of an entry.
 fn usable(c: Control, w: bool, e: Pair) -> bool
     ensures { λ r. ⌜ r ≡ usable c w e ⌝ }
 {
-    let us = c.ring == 3;
-    let rw = w & (us | (c.cr0 / 65536 % 2 == 1));
-    passes(us, rw, false, e.pde) & passes(us, rw, w, e.pte)
+    if c.ring == 3 {
+        if w {
+            return passes(true, true, false, e.pde) & passes(true, true, true, e.pte);
+        }
+        return passes(true, false, false, e.pde) & passes(true, false, false, e.pte);
+    }
+    let rw = w & (c.cr0 / 65536 % 2 == 1);
+    passes(false, rw, false, e.pde) & passes(false, rw, w, e.pte)
 }
 
 fn on_page(mem: &[u8], c: Control, w: bool, l: u32) -> Settled

@@ -1,16 +1,16 @@
+use mathlib.Core.Path.{_∙_}
 use borrow.Author.Needs.{needs}
-use mathlib.Core.Path.{refl}
-use Rattle.alu.specs.Arithmetic.{bit, sumStatus}
-use Rattle.alu.proofs.Laws.{add-of, bit-le}
 use Rattle.alu.proofs.add32.Statement.{statement}
 use Rattle.alu.proofs.add32.Tie as tie
 
+add32-requires : tie.Need-add32-requires
+add32-requires c κs = search needs
+
+out-in-requires : tie.Need-out-in-requires
+out-in-requires c κs = search needs
+
 returns : tie.Need-returns
-unfolding sumStatus
-returns c =
-    let x = c .before .before .args in
-    let o = add-of 2147483648 (x .a) (x .b) (bit (x .c)) (search needs) (search needs) (bit-le (x .c)) in
-    simp (c .even .ensures, c .before .one .ensures .0, o) refl
+returns c = c .out-in .ensures ∙ c .before .add32 .ensures
 
 pub add32-spec : {M : Type 1} → statement M
-add32-spec = tie.close (tie.spec (λ c κs. search needs) (λ c. search needs) (λ c. search needs) (λ c. search needs) (λ c. search needs) (λ c κs. search needs) (λ c. search needs) (λ c. search needs) returns)
+add32-spec = tie.close (tie.spec add32-requires out-in-requires returns)

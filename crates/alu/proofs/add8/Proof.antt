@@ -1,34 +1,16 @@
-use mathlib.Core.Path.{refl}
-use Rattle.alu.specs.Arithmetic.{bit, sumStatus}
-use Rattle.alu.proofs.Laws.{add-of, bit-le}
+use mathlib.Core.Path.{_∙_}
 use borrow.Author.Needs.{needs}
 use Rattle.alu.proofs.add8.Statement.{statement}
 use Rattle.alu.proofs.add8.Tie as tie
 
-one-requires : tie.Need-one-requires
-one-requires c κs = search needs
+add8-requires : tie.Need-add8-requires
+add8-requires c κs = search needs
 
-add-t : tie.Need-add-t
-add-t c = search needs
-
-add-t-2 : tie.Need-add-t-2
-add-t-2 c = search needs
-
-even-requires : tie.Need-even-requires
-even-requires c κs = search needs
-
-add-t15 : tie.Need-add-t15
-add-t15 c = search needs
-
-add-t16 : tie.Need-add-t16
-add-t16 c = search needs
+out-in-requires : tie.Need-out-in-requires
+out-in-requires c κs = search needs
 
 returns : tie.Need-returns
-unfolding sumStatus
-returns c =
-    let x = c .before .before .args in
-    let o = add-of 128 (x .a) (x .b) (bit (x .c)) (search needs) (search needs) (bit-le (x .c)) in
-    simp (c .even .ensures, c .before .one .ensures .0, o) refl
+returns c = c .out-in .ensures ∙ c .before .add8 .ensures
 
 pub add8-spec : {M : Type 1} → statement M
-add8-spec = tie.close (tie.spec one-requires add-t add-t-2 even-requires add-t15 add-t16 returns)
+add8-spec = tie.close (tie.spec add8-requires out-in-requires returns)

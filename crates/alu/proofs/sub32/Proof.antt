@@ -1,16 +1,16 @@
+use mathlib.Core.Path.{_∙_}
 use borrow.Author.Needs.{needs}
-use mathlib.Core.Path.{refl}
-use Rattle.alu.specs.Arithmetic.{bit, differenceStatus}
-use Rattle.alu.proofs.Laws.{sub-of, bit-le}
 use Rattle.alu.proofs.sub32.Statement.{statement}
 use Rattle.alu.proofs.sub32.Tie as tie
 
+sub32-requires : tie.Need-sub32-requires
+sub32-requires c κs = search needs
+
+out-in-requires : tie.Need-out-in-requires
+out-in-requires c κs = search needs
+
 returns : tie.Need-returns
-unfolding differenceStatus
-returns c =
-    let x = c .before .before .args in
-    let o = sub-of 2147483648 (x .a) (x .b) (bit (x .c)) (search needs) (search needs) (bit-le (x .c)) in
-    simp (c .even .ensures, c .before .one .ensures .0, o) refl
+returns c = c .out-in .ensures ∙ c .before .sub32 .ensures
 
 pub sub32-spec : {M : Type 1} → statement M
-sub32-spec = tie.close (tie.spec (λ c κs. search needs) (λ c. search needs) (λ c. search needs) (λ c. search needs) (λ c. search needs) (λ c. search needs) (λ c κs. search needs) (λ c. search needs) returns)
+sub32-spec = tie.close (tie.spec sub32-requires out-in-requires returns)
