@@ -1,19 +1,17 @@
 -- Decoding where all the bytes are shown: one fetch after another, to the instruction.
 -- Assumes nothing.
-use Prim.Native.Nat.{ℕ, _+_, _*_, _/_, _%_, _<_, _≤_}
-use mathlib.Core.Path.{_≡_, refl, sym, ap, _∙_}
+use Prim.Native.Nat.{ℕ, _+_, _/_, _%_, _<_}
+use mathlib.Core.Path.{_≡_, refl}
 use mathlib.Core.Bool.{Bool, true, false, cond, _&&_}
 use native.Mathlib.Omega.{arith}
 use borrow.Author.Tests.{lt-ltb}
 use lib.Dec.{leb, eqb}
-use Rattle.machine.specs.Record.{Mem, at, wrap}
+use Rattle.machine.specs.Record.{Mem, at}
 use Rattle.machine.specs.Paging.{View, dwordAt}
-use Rattle.machine.specs.Act.{Res, ok, byte, counted, fetch}
-use Rattle.encoding.specs.declared.Operand.{Operand}
-use Rattle.encoding.specs.declared.Instruction.{Instruction}
+use Rattle.machine.specs.Act.{ok, byte, counted, fetch}
 use Rattle.encoding.specs.Encodings.{classOf, notBuilt, override, escape, undefined}
 use Rattle.encoding.specs.Attributes.{regField, hasModrm, hasOffset, undefinedForm, unbuiltForm, isWide, immediateBytes, immediateOf, impliedRegister, familyOf, operationOf}
-use Rattle.decode.specs.Decode.{signed, fetchSigned, fetchWord, fetchDword, number, prefixed, escaped, opcode, inRegister, inMemory, displacementBytes, scaleOf, indexOf, afterSib, afterModrm, judged, finish, withModrm, withOffset, classed, decode}
+use Rattle.decode.specs.Decode.{signed, fetchSigned, fetchDword, number, prefixed, opcode, inRegister, inMemory, displacementBytes, scaleOf, indexOf, afterSib, afterModrm, judged, finish, withModrm, classed, decode}
 use Rattle.decode.specs.Read.{logAt}
 use Rattle.decode.proofs.Laws.{span-more}
 use Rattle.shortcut.specs.Bytes.{Shows, displacementAt, isBare, sibAt, sibBytes, operandAt, operandBytes}

@@ -1,16 +1,15 @@
 -- The short forms with a ModRM byte are the instructions that the definition decodes, with the same accesses and the same effect.
 -- Assumes nothing.
-use Prim.Native.Nat.{ℕ, _+_, _*_, _/_, _%_, _<_, _≤_}
-use mathlib.Core.Path.{_≡_, refl, sym, ap, _∙_}
-use mathlib.Core.Bool.{Bool, true, false, cond, _&&_, false≢true}
+use Prim.Native.Nat.{ℕ, _+_, _/_, _%_, _<_}
+use mathlib.Core.Path.{_≡_, refl, _∙_}
+use mathlib.Core.Bool.{Bool, true, false, cond, false≢true}
 use mathlib.Core.List.{List}
 use native.Mathlib.Omega.{arith}
 use borrow.Author.Tests.{lt-ltb}
-use lib.Dec.{ltb, leb, eqb}
+use lib.Dec.{ltb}
 use Rattle.alu.specs.declared.Status.{Status}
 use Rattle.alu.specs.Arithmetic.{operate, operation, writes}
 use Rattle.machine.specs.declared.Core.{Core}
-use Rattle.machine.specs.declared.Want.{Want}
 use Rattle.machine.specs.declared.Want.the-variants.{Nothing}
 use Rattle.machine.specs.Record.{Mem, at, register, writeAt}
 use Rattle.machine.specs.Paging.{View}
@@ -23,9 +22,9 @@ use Rattle.operands.specs.Operands.{scaled, address, operandWant, operandValue,
 use Rattle.arithmetic.specs.Arithmetic.{combined, combinedFrom, doCombineFrom}
 use Rattle.moves.specs.Moves.{doAddress}
 use Rattle.execute.specs.Execute.{permitted, writesOperand, readsOperand, first, second, computeArithmetic, computeMove, compute}
-use Rattle.shortcut.specs.Bytes.{Shows, operandAt}
+use Rattle.shortcut.specs.Bytes.{operandAt}
 use Rattle.shortcut.specs.Forms.{file, isDirect, isOdd, spotOf, leftFast, fromFast, addressFast, upTo}
-use Rattle.shortcut.specs.Shortcut.{wantFirst, wantSecond, outOf, resultOf, stacked, registersAfter, coreAfter, Fits, coreFrom}
+use Rattle.shortcut.specs.Shortcut.{wantFirst, wantSecond, outOf, resultOf, stacked, depositOf, coreAfter, Fits, coreFrom}
 use Rattle.shortcut.proofs.Decoded.{operand-direct, operand-register}
 
 pub below-eight : (x : ℕ) → ltb (x % 8) 8 ≡ true
@@ -67,14 +66,14 @@ module _ (v : View) (m : Mem) (e : List ℕ) (s : Status) (eip i : ℕ) (int dir
 
   -- ---- on the operand
 
-  module _ (f op x y n : ℕ) (no-inc : eqb op 10 ≡ false) (no-dec : eqb op 11 ≡ false)
+  module _ (f op x y n : ℕ) (low : ltb op 10 ≡ true)
       (de : decode eip v (logAt eip 0) ≡ ok (combining f op x n) (logAt eip n))
       (free′ : (iopl ring : ℕ) → permitted (combining f op x n) iopl ring ≡ true)
       (first′ : first (combining f op x n) (file e) ≡ cond (writes op) (operandWant true (combining f op x n) (file e)) (operandWant false (combining f op x n) (file e)))
       (second′ : second (combining f op x n) (file e) ≡ Nothing)
       (comp : (a : ℕ) → compute (combining f op x n) k a ≡ combined (combining f op x n) k (operate op (isOdd b) (operandValue (combining f op x n) (file e) a) y s)) where
     pub left-fits : Fits v k (leftFast m e eip i op b md y n)
-    unfolding combined deposit operandValue operandWant leftFast spotOf wantFirst wantSecond outOf resultOf stacked registersAfter coreAfter
+    unfolding combined deposit operandValue operandWant leftFast spotOf wantFirst wantSecond outOf resultOf stacked depositOf coreAfter
     left-fits = by (isDirect md) refl (writes op) refl
       where
         by : (d : Bool) → isDirect md ≡ d → (w : Bool) → writes op ≡ w → Fits v k (leftFast m e eip i op b md y n)
@@ -87,8 +86,8 @@ module _ (v : View) (m : Mem) (e : List ℕ) (s : Status) (eip i : ℕ) (int dir
               firstly = first′ ∙ rw (w, direct d, d);
               secondly = second′ ∙ rw d;
               done = λ a. rw (comp a, w);
-              core = λ a _. rw (comp a, w, direct d, d, no-inc, no-dec, r, below-eight md);
-              value = λ a _ _. rw (comp a, w, direct d, d, no-inc, no-dec, r);
+              core = λ a _. rw (comp a, w, direct d, d, low, r, below-eight md);
+              value = λ a _ _. rw (comp a, w, direct d, d, low, r);
             }
         by true d false w =
             let r = operand-register m (i + 2) md d in
@@ -99,8 +98,8 @@ module _ (v : View) (m : Mem) (e : List ℕ) (s : Status) (eip i : ℕ) (int dir
               firstly = first′ ∙ rw (w, direct d, d);
               secondly = second′ ∙ rw d;
               done = λ a. rw (comp a, w);
-              core = λ a _. rw (comp a, w, direct d, d, no-inc, no-dec, r, below-eight md);
-              value = λ a _ _. rw (comp a, w, direct d, d, no-inc, no-dec, r);
+              core = λ a _. rw (comp a, w, direct d, d, low, r);
+              value = λ a _ _. rw (comp a, w, direct d, d, low, r);
             }
         by false d true w =
             record {
@@ -110,8 +109,8 @@ module _ (v : View) (m : Mem) (e : List ℕ) (s : Status) (eip i : ℕ) (int dir
               firstly = first′ ∙ rw (w, direct d, d);
               secondly = second′ ∙ rw (d, w);
               done = λ a. rw (comp a, w);
-              core = λ a _. rw (comp a, w, direct d, d, no-inc, no-dec);
-              value = λ a _ _. rw (comp a, w, direct d, d, no-inc, no-dec);
+              core = λ a _. rw (comp a, w, direct d, d, low);
+              value = λ a _ _. rw (comp a, w, direct d, d, low);
             }
         by false d false w =
             record {
@@ -121,16 +120,16 @@ module _ (v : View) (m : Mem) (e : List ℕ) (s : Status) (eip i : ℕ) (int dir
               firstly = first′ ∙ rw (w, direct d, d);
               secondly = second′ ∙ rw (d, w);
               done = λ a. rw (comp a, w);
-              core = λ a _. rw (comp a, w, direct d, d, no-inc, no-dec);
-              value = λ a _ _. rw (comp a, w, direct d, d, no-inc, no-dec);
+              core = λ a _. rw (comp a, w, direct d, d, low);
+              value = λ a _ _. rw (comp a, w, direct d, d, low);
             }
 
   -- ---- on the register
 
-  module _ (op x n : ℕ) (no-inc : eqb op 10 ≡ false) (no-dec : eqb op 11 ≡ false) (len : n ≡ upTo m i md)
+  module _ (op x n : ℕ) (low : ltb op 10 ≡ true) (len : n ≡ upTo m i md)
       (de : decode eip v (logAt eip 0) ≡ ok (combining 2 op x n) (logAt eip n)) where
     pub from-fits : Fits v k (fromFast m e eip i op b md)
-    unfolding first second writesOperand readsOperand compute computeArithmetic doCombineFrom combinedFrom operandValue operandWant fromFast spotOf wantFirst wantSecond outOf resultOf stacked registersAfter coreAfter
+    unfolding first second writesOperand readsOperand compute computeArithmetic doCombineFrom combinedFrom operandValue operandWant fromFast spotOf wantFirst wantSecond outOf resultOf stacked depositOf coreAfter
     from-fits = by (isDirect md) refl (writes op) refl
       where
         by : (d : Bool) → isDirect md ≡ d → (w : Bool) → writes op ≡ w → Fits v k (fromFast m e eip i op b md)
@@ -143,7 +142,7 @@ module _ (v : View) (m : Mem) (e : List ℕ) (s : Status) (eip i : ℕ) (int dir
               firstly = rw (direct d, d);
               secondly = rw d;
               done = λ a. refl;
-              core = λ a _. rw (w, direct d, d, no-inc, no-dec, r, below-eight (md / 8), len);
+              core = λ a _. rw (w, direct d, d, low, r, below-eight (md / 8), len);
               value = λ a _ z. absurd (false≢true (rw d at z));
             }
         by true d false w =
@@ -155,7 +154,7 @@ module _ (v : View) (m : Mem) (e : List ℕ) (s : Status) (eip i : ℕ) (int dir
               firstly = rw (direct d, d);
               secondly = rw d;
               done = λ a. refl;
-              core = λ a _. rw (w, direct d, d, no-inc, no-dec, r, below-eight (md / 8), len);
+              core = λ a _. rw (w, direct d, d, low, r, len);
               value = λ a _ z. absurd (false≢true (rw d at z));
             }
         by false d true w =
@@ -166,7 +165,7 @@ module _ (v : View) (m : Mem) (e : List ℕ) (s : Status) (eip i : ℕ) (int dir
               firstly = rw (direct d, d);
               secondly = rw d;
               done = λ a. refl;
-              core = λ a _. rw (w, direct d, d, no-inc, no-dec, below-eight (md / 8), len);
+              core = λ a _. rw (w, direct d, d, low, below-eight (md / 8), len);
               value = λ a _ z. absurd (false≢true (rw d at z));
             }
         by false d false w =
@@ -177,7 +176,7 @@ module _ (v : View) (m : Mem) (e : List ℕ) (s : Status) (eip i : ℕ) (int dir
               firstly = rw (direct d, d);
               secondly = rw d;
               done = λ a. refl;
-              core = λ a _. rw (w, direct d, d, no-inc, no-dec, below-eight (md / 8), len);
+              core = λ a _. rw (w, direct d, d, low, len);
               value = λ a _ z. absurd (false≢true (rw d at z));
             }
 
@@ -188,7 +187,7 @@ module _ (v : View) (m : Mem) (e : List ℕ) (s : Status) (eip i : ℕ) (int dir
     loading = record { family = 11; operation = op; wide = true; register = regField md; operand = operandAt m (i + 2) md; immediate = x; length = n }
 
     pub address-fits : decode eip v (logAt eip 0) ≡ ok loading (logAt eip n) → Fits v k (addressFast m e eip i md)
-    unfolding first second writesOperand readsOperand compute computeMove doAddress address addressFast spotOf wantFirst wantSecond operate operation outOf resultOf stacked registersAfter coreAfter writeAt
+    unfolding first second writesOperand readsOperand compute computeMove doAddress address addressFast spotOf wantFirst wantSecond operate operation outOf resultOf stacked depositOf coreAfter writeAt
     address-fits de = record {
       instr = loading;
       decodes = de;

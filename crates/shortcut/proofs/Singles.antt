@@ -1,14 +1,13 @@
 -- The short forms without a ModRM byte: moves of an immediate, INC and DEC, jumps and the stack.
 -- Assumes nothing.
-use Prim.Native.Nat.{ℕ, _+_, _*_, _/_, _%_, _<_, _≤_}
-use mathlib.Core.Path.{_≡_, refl, sym, ap, _∙_}
-use mathlib.Core.Bool.{Bool, true, false, cond, _&&_, false≢true}
+use Prim.Native.Nat.{ℕ, _+_, _/_, _%_, _<_}
+use mathlib.Core.Path.{_≡_, refl, sym}
+use mathlib.Core.Bool.{Bool, true, false, cond, false≢true}
 use mathlib.Core.List.{List}
 use native.Mathlib.Omega.{arith}
-use borrow.Author.Tests.{lt-ltb}
-use lib.Dec.{ltb, leb, eqb}
+use lib.Dec.{eqb}
 use Rattle.alu.specs.declared.Status.{Status}
-use Rattle.alu.specs.Arithmetic.{operate, operation, operateOne}
+use Rattle.alu.specs.Arithmetic.{operate, operation}
 use Rattle.conditions.specs.Conditions.{holds}
 use Rattle.machine.specs.declared.Core.{Core}
 use Rattle.machine.specs.Record.{Mem, at, wrap, register, readAt, writeAt}
@@ -23,7 +22,7 @@ use Rattle.stack.specs.Stack.{doPush, doPop, doCall, doReturn}
 use Rattle.flow.specs.Flow.{doJumpOn, doJump}
 use Rattle.execute.specs.Execute.{writesOperand, readsOperand, first, second, computeArithmetic, computeMove, computeFlow, compute}
 use Rattle.shortcut.specs.Forms.{file, numberAt, loadFast, countFast, jumpFast, pushFast, popFast}
-use Rattle.shortcut.specs.Shortcut.{wantFirst, wantSecond, outOf, resultOf, stacked, registersAfter, coreAfter, Fits, coreFrom}
+use Rattle.shortcut.specs.Shortcut.{wantFirst, wantSecond, outOf, resultOf, stacked, depositOf, coreAfter, Fits, coreFrom}
 use Rattle.shortcut.proofs.Fitting.{below-eight}
 
 same : (x : ℕ) → x < 4294967296 → x % 4294967296 ≡ x
@@ -42,7 +41,7 @@ module _ (v : View) (m : Mem) (e : List ℕ) (s : Status) (eip i : ℕ) (int dir
 
   pub load-fits : decode eip v (logAt eip 0) ≡ ok (naming 3 9 (eqb (b / 8 % 2) 1) (b % 8) (numberAt (eqb (b / 8 % 2) 1) m (i + 1)) (1 + cond (eqb (b / 8 % 2) 1) 4 1)) (logAt eip (1 + cond (eqb (b / 8 % 2) 1) 4 1))
       → Fits v k (loadFast m eip i b)
-  unfolding first second writesOperand readsOperand compute computeArithmetic doCombineImmediate combined deposit operandValue operandWant operate operation loadFast wantFirst wantSecond outOf resultOf stacked registersAfter coreAfter
+  unfolding first second writesOperand readsOperand compute computeArithmetic doCombineImmediate combined deposit operandValue operandWant operate operation loadFast wantFirst wantSecond outOf resultOf stacked depositOf coreAfter
   load-fits de = record {
     instr = naming 3 9 (eqb (b / 8 % 2) 1) (b % 8) (numberAt (eqb (b / 8 % 2) 1) m (i + 1)) (1 + cond (eqb (b / 8 % 2) 1) 4 1);
     decodes = de;
@@ -56,7 +55,7 @@ module _ (v : View) (m : Mem) (e : List ℕ) (s : Status) (eip i : ℕ) (int dir
 
   module _ (x : ℕ) where
     pub inc-fits : decode eip v (logAt eip 0) ≡ ok (naming 4 0 true (b % 8) x 1) (logAt eip 1) → Fits v k (countFast e eip 10 b)
-    unfolding first second writesOperand readsOperand compute computeArithmetic doUnary deposit operandValue operandWant readAt countFast wantFirst wantSecond outOf resultOf stacked registersAfter coreAfter
+    unfolding first second writesOperand readsOperand compute computeArithmetic doUnary deposit operandValue operandWant readAt countFast wantFirst wantSecond outOf resultOf stacked depositOf coreAfter
     inc-fits de = record {
       instr = naming 4 0 true (b % 8) x 1;
       decodes = de;
@@ -69,7 +68,7 @@ module _ (v : View) (m : Mem) (e : List ℕ) (s : Status) (eip i : ℕ) (int dir
     }
 
     pub dec-fits : decode eip v (logAt eip 0) ≡ ok (naming 4 1 true (b % 8) x 1) (logAt eip 1) → Fits v k (countFast e eip 11 b)
-    unfolding first second writesOperand readsOperand compute computeArithmetic doUnary deposit operandValue operandWant readAt countFast wantFirst wantSecond outOf resultOf stacked registersAfter coreAfter
+    unfolding first second writesOperand readsOperand compute computeArithmetic doUnary deposit operandValue operandWant readAt countFast wantFirst wantSecond outOf resultOf stacked depositOf coreAfter
     dec-fits de = record {
       instr = naming 4 1 true (b % 8) x 1;
       decodes = de;
@@ -85,7 +84,7 @@ module _ (v : View) (m : Mem) (e : List ℕ) (s : Status) (eip i : ℕ) (int dir
 
   module _ (op r x n : ℕ) where
     pub jump-fits : decode eip v (logAt eip 0) ≡ ok (naming 18 op true r x n) (logAt eip n) → Fits v k (jumpFast (wrap (wrap (eip + n) + x)))
-    unfolding first second writesOperand readsOperand compute computeFlow doJump operate operation jumpFast wantFirst wantSecond outOf resultOf stacked registersAfter coreAfter
+    unfolding first second writesOperand readsOperand compute computeFlow doJump operate operation jumpFast wantFirst wantSecond outOf resultOf stacked depositOf coreAfter
     jump-fits de = record {
       instr = naming 18 op true r x n;
       decodes = de;
@@ -98,7 +97,7 @@ module _ (v : View) (m : Mem) (e : List ℕ) (s : Status) (eip i : ℕ) (int dir
     }
 
     pub jump-on : holds op s ≡ true → decode eip v (logAt eip 0) ≡ ok (naming 17 op true r x n) (logAt eip n) → Fits v k (jumpFast (wrap (wrap (eip + n) + x)))
-    unfolding first second writesOperand readsOperand compute computeFlow doJumpOn operate operation jumpFast wantFirst wantSecond outOf resultOf stacked registersAfter coreAfter
+    unfolding first second writesOperand readsOperand compute computeFlow doJumpOn operate operation jumpFast wantFirst wantSecond outOf resultOf stacked depositOf coreAfter
     jump-on h de = record {
       instr = naming 17 op true r x n;
       decodes = de;
@@ -111,7 +110,7 @@ module _ (v : View) (m : Mem) (e : List ℕ) (s : Status) (eip i : ℕ) (int dir
     }
 
     pub jump-off : holds op s ≡ false → decode eip v (logAt eip 0) ≡ ok (naming 17 op true r x n) (logAt eip n) → Fits v k (jumpFast (wrap (eip + n)))
-    unfolding first second writesOperand readsOperand compute computeFlow doJumpOn operate operation jumpFast wantFirst wantSecond outOf resultOf stacked registersAfter coreAfter
+    unfolding first second writesOperand readsOperand compute computeFlow doJumpOn operate operation jumpFast wantFirst wantSecond outOf resultOf stacked depositOf coreAfter
     jump-off h de = record {
       instr = naming 17 op true r x n;
       decodes = de;
@@ -127,7 +126,7 @@ module _ (v : View) (m : Mem) (e : List ℕ) (s : Status) (eip i : ℕ) (int dir
 
     pub push-fits : register (file e) r < 4294967296 → decode eip v (logAt eip 0) ≡ ok (naming 13 op true r x n) (logAt eip n)
         → Fits v k (pushFast e (register (file e) r) (wrap (eip + n)))
-    unfolding first second writesOperand readsOperand compute computeMove doPush operandValue operandWant readAt operate operation pushFast wantFirst wantSecond outOf resultOf stacked registersAfter coreAfter
+    unfolding first second writesOperand readsOperand compute computeMove doPush operandValue operandWant readAt operate operation pushFast wantFirst wantSecond outOf resultOf stacked depositOf coreAfter
     push-fits h de = record {
       instr = naming 13 op true r x n;
       decodes = de;
@@ -140,7 +139,7 @@ module _ (v : View) (m : Mem) (e : List ℕ) (s : Status) (eip i : ℕ) (int dir
     }
 
     pub call-fits : decode eip v (logAt eip 0) ≡ ok (naming 20 op true r x n) (logAt eip n) → Fits v k (pushFast e (wrap (eip + n)) (wrap (wrap (eip + n) + x)))
-    unfolding first second writesOperand readsOperand compute computeFlow doCall operate operation pushFast wantFirst wantSecond outOf resultOf stacked registersAfter coreAfter
+    unfolding first second writesOperand readsOperand compute computeFlow doCall operate operation pushFast wantFirst wantSecond outOf resultOf stacked depositOf coreAfter
     call-fits de = record {
       instr = naming 20 op true r x n;
       decodes = de;
@@ -154,7 +153,7 @@ module _ (v : View) (m : Mem) (e : List ℕ) (s : Status) (eip i : ℕ) (int dir
 
   module _ (op x n : ℕ) where
     pub pop-fits : decode eip v (logAt eip 0) ≡ ok (naming 15 op true (b % 8) x n) (logAt eip n) → Fits v k (popFast e 5 (b % 8) (wrap (eip + n)))
-    unfolding first second writesOperand readsOperand compute computeMove doPop deposit operandWant writeAt operate operation popFast wantFirst wantSecond outOf resultOf stacked registersAfter coreAfter
+    unfolding first second writesOperand readsOperand compute computeMove doPop deposit operandWant writeAt operate operation popFast wantFirst wantSecond outOf resultOf stacked depositOf coreAfter
     pop-fits de = record {
       instr = naming 15 op true (b % 8) x n;
       decodes = de;
@@ -167,7 +166,7 @@ module _ (v : View) (m : Mem) (e : List ℕ) (s : Status) (eip i : ℕ) (int dir
     }
 
     pub return-fits : decode eip v (logAt eip 0) ≡ ok (naming 22 op true x 0 n) (logAt eip n) → Fits v k (popFast e 6 8 (wrap (eip + n)))
-    unfolding first second writesOperand readsOperand compute computeFlow doReturn operate operation popFast wantFirst wantSecond outOf resultOf stacked registersAfter coreAfter
+    unfolding first second writesOperand readsOperand compute computeFlow doReturn operate operation popFast wantFirst wantSecond outOf resultOf stacked depositOf coreAfter
     return-fits de = record {
       instr = naming 22 op true x 0 n;
       decodes = de;

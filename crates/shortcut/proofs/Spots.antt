@@ -1,12 +1,12 @@
 -- Where an operand lies, from what the code read of its bytes.
 -- Assumes nothing.
 use Prim.Native.Nat.{ℕ, _+_, _/_, _%_, _<_, _≤_}
-use mathlib.Core.Path.{_≡_, refl, sym, ap, _∙_}
-use mathlib.Core.Bool.{Bool, true, false, cond, _&&_}
+use mathlib.Core.Path.{_≡_, refl, ap, _∙_}
+use mathlib.Core.Bool.{true, false, _&&_}
 use mathlib.Core.List.{List}
 use native.Mathlib.Omega.{arith}
 use borrow.Author.Tests.{eq-eqb, ne-eqb, lt-leb, le-leb}
-use lib.Dec.{leb, eqb}
+use lib.Dec.{eqb}
 use Rattle.machine.specs.Record.{Mem, at}
 use Rattle.machine.specs.Paging.{dwordAt}
 use Rattle.decode.specs.Decode.{inMemory, displacementBytes, scaleOf, indexOf}

@@ -1,18 +1,18 @@
 -- Each encoding that is taken: from the bytes that the code read to the instruction in its short form.
 -- Assumes nothing.
-use Prim.Native.Nat.{ℕ, _+_, _*_, _/_, _%_, _<_, _≤_}
+use Prim.Native.Nat.{ℕ, _+_, _/_, _%_, _<_}
 use mathlib.Core.Path.{_≡_, refl, sym, ap, _∙_}
-use mathlib.Core.Bool.{Bool, true, false, cond, _&&_, _||_, false≢true}
+use mathlib.Core.Bool.{Bool, true, false, cond, _||_, false≢true}
 use mathlib.Core.List.{List}
 use native.Mathlib.Omega.{arith}
 use borrow.Author.Tests.{lt-ltb, lt-leb, ne-eqb, eqb-true}
-use lib.Dec.{ltb, leb, eqb}
+use lib.Dec.{ltb, eqb}
 use Rattle.alu.specs.declared.Status.{Status}
 use Rattle.conditions.specs.Conditions.{holds}
-use Rattle.machine.specs.Record.{Mem, at, wrap, register, readAt}
+use Rattle.machine.specs.Record.{Mem, at, wrap, register}
 use Rattle.machine.specs.Paging.{View, dwordAt}
 use Rattle.encoding.specs.Encodings.{classOf}
-use Rattle.encoding.specs.Attributes.{familyOf, operationOf as operationIn, arithmeticFamily, moveFamily, flowFamily, longOpcode}
+use Rattle.encoding.specs.Attributes.{familyOf, arithmeticFamily, moveFamily, flowFamily, longOpcode}
 use Rattle.machine.specs.Act.{ok}
 use Rattle.decode.specs.Decode.{signed, decode}
 use Rattle.decode.specs.Read.{logAt}
@@ -20,22 +20,30 @@ use Rattle.execute.specs.Execute.{second, computeArithmetic, compute}
 use Rattle.arithmetic.specs.Arithmetic.{doCombineTo, doCombineImmediate}
 use Rattle.shortcut.specs.declared.Fast.{Fast}
 use Rattle.shortcut.specs.Bytes.{Shows}
-use Rattle.shortcut.specs.Forms.{file, isOdd, isDirect, upTo, numberAt, operationOf, toFast, fromFast, numberFast, addressFast, loadFast, countFast, jumpFast, pushFast, popFast}
-use Rattle.shortcut.specs.Shortcut.{Fits, coreFrom, FastOk}
+use Rattle.shortcut.specs.Forms.{file, isDirect, upTo, numberAt, operationOf, leftFast, toFast, fromFast, numberFast, addressFast, loadFast, countFast, jumpFast, pushFast, popFast}
+use Rattle.shortcut.specs.Shortcut.{Fits, coreFrom, Idle, FastOk}
 use Rattle.shortcut.proofs.Small.{operand-few}
-use Rattle.shortcut.proofs.Decoded.{Plain, number-none, number-one, number-four, number-long, with-modrm, without-modrm}
+use Rattle.shortcut.proofs.Decoded.{number-none, number-one, number-four, number-long, with-modrm, without-modrm}
 use Rattle.shortcut.proofs.Fitting.{left-fits, first-to, first-number, from-fits, address-fits}
 use Rattle.shortcut.proofs.Singles.{naming, load-fits, inc-fits, dec-fits, jump-fits, jump-on, jump-off, push-fits, call-fits, pop-fits, return-fits}
 
-pub not-taken : (m : Mem) (e : List ℕ) (s : Status) (eip i : ℕ) (p : Fast) → p .taken ≡ false → FastOk m e s eip i p
-not-taken m e s eip i p h t = absurd (false≢true (sym h ∙ t))
+pub not-taken : (m : Mem) (e : List ℕ) (s : Status) (eip i : ℕ) (p : Fast) → (p .taken ≡ false) × (p .jumps ≡ false) → FastOk m e s eip i p
+not-taken m e s eip i p h = record { fits = λ t. absurd (false≢true (sym (h .0) ∙ t)); idle = λ t. absurd (false≢true (sym (h .1) ∙ t)) }
 
--- a number below ten is none of INC and DEC
-not-ten : (x : ℕ) → eqb (x % 8) 10 ≡ false
-not-ten x = let h : x % 8 ≡ 10 → ⊥ = λ h. omega arith in ne-eqb (x % 8) 10 h
+-- what fits and is no jump; and a jump that fits
+module _ (m : Mem) (e : List ℕ) (s : Status) (eip i : ℕ) (p : Fast) where
+  abbrev Fitting : Type 0
+  Fitting = (int dir : Bool) (v : View) → Shows v m eip i → Fits v (coreFrom e eip s int dir) p
 
-not-eleven : (x : ℕ) → eqb (x % 8) 11 ≡ false
-not-eleven x = let h : x % 8 ≡ 11 → ⊥ = λ h. omega arith in ne-eqb (x % 8) 11 h
+  working : p .jumps ≡ false → Fitting → FastOk m e s eip i p
+  working h f = record { fits = λ _. f; idle = λ t. absurd (false≢true (sym h ∙ t)) }
+
+  jumping : Idle p → Fitting → FastOk m e s eip i p
+  jumping h f = record { fits = λ _. f; idle = λ _. h }
+
+-- an operation of two operands is below ten
+under-ten : (x : ℕ) → ltb (x % 8) 10 ≡ true
+under-ten x = let h : x % 8 < 10 = omega arith in lt-ltb (x % 8) 10 h
 
 module _ (m : Mem) (e : List ℕ) (s : Status) (eip i : ℕ) where
   abbrev b : ℕ
@@ -47,118 +55,118 @@ module _ (m : Mem) (e : List ℕ) (s : Status) (eip i : ℕ) where
   -- ---- with ModRM
 
   to-4 : classOf b ≡ 4 → FastOk m e s eip i (toFast m e eip i (b / 8 % 8) b md)
-  unfolding familyOf operationIn second compute computeArithmetic doCombineTo
-  to-4 h _ int dir v sh =
-      left-fits v m e s eip i int dir 1 (b / 8 % 8) 0 _ (upTo m i md) (not-ten (b / 8)) (not-eleven (b / 8))
+  unfolding familyOf operationIn second compute computeArithmetic doCombineTo leftFast
+  to-4 h = working m e s eip i _ refl λ int dir v sh.
+      left-fits v m e s eip i int dir 1 (b / 8 % 8) 0 _ (upTo m i md) (under-ten (b / 8))
       (with-modrm v m eip i sh 4 0 _ (record { isClass = h; noOverride = refl; noEscape = refl; built = refl; defined = refl }) refl refl refl (number-none v m eip i sh _))
       (λ _ _. refl) (first-to v m e s eip i int dir _ _ _) refl (λ a. refl)
 
   to-8 : classOf b ≡ 8 → FastOk m e s eip i (toFast m e eip i 8 b md)
-  unfolding familyOf operationIn second compute computeArithmetic doCombineTo
-  to-8 h _ int dir v sh =
-      left-fits v m e s eip i int dir 1 8 0 _ (upTo m i md) refl refl
+  unfolding familyOf operationIn second compute computeArithmetic doCombineTo leftFast
+  to-8 h = working m e s eip i _ refl λ int dir v sh.
+      left-fits v m e s eip i int dir 1 8 0 _ (upTo m i md) refl
       (with-modrm v m eip i sh 8 0 _ (record { isClass = h; noOverride = refl; noEscape = refl; built = refl; defined = refl }) refl refl refl (number-none v m eip i sh _))
       (λ _ _. refl) (first-to v m e s eip i int dir _ _ _) refl (λ a. refl)
 
   to-11 : classOf b ≡ 11 → FastOk m e s eip i (toFast m e eip i 9 b md)
-  unfolding familyOf operationIn second compute computeArithmetic doCombineTo
-  to-11 h _ int dir v sh =
-      left-fits v m e s eip i int dir 1 9 0 _ (upTo m i md) refl refl
+  unfolding familyOf operationIn second compute computeArithmetic doCombineTo leftFast
+  to-11 h = working m e s eip i _ refl λ int dir v sh.
+      left-fits v m e s eip i int dir 1 9 0 _ (upTo m i md) refl
       (with-modrm v m eip i sh 11 0 _ (record { isClass = h; noOverride = refl; noEscape = refl; built = refl; defined = refl }) refl refl refl (number-none v m eip i sh _))
       (λ _ _. refl) (first-to v m e s eip i int dir _ _ _) refl (λ a. refl)
 
   from-5 : classOf b ≡ 5 → FastOk m e s eip i (fromFast m e eip i (b / 8 % 8) b md)
-  unfolding familyOf operationIn
-  from-5 h _ int dir v sh =
-      from-fits v m e s eip i int dir (b / 8 % 8) 0 _ (not-ten (b / 8)) (not-eleven (b / 8)) refl
+  unfolding familyOf operationIn fromFast
+  from-5 h = working m e s eip i _ refl λ int dir v sh.
+      from-fits v m e s eip i int dir (b / 8 % 8) 0 _ (under-ten (b / 8)) refl
       (with-modrm v m eip i sh 5 0 _ (record { isClass = h; noOverride = refl; noEscape = refl; built = refl; defined = refl }) refl refl refl (number-none v m eip i sh _))
 
   from-12 : classOf b ≡ 12 → FastOk m e s eip i (fromFast m e eip i 9 b md)
-  unfolding familyOf operationIn
-  from-12 h _ int dir v sh =
-      from-fits v m e s eip i int dir 9 0 _ refl refl refl
+  unfolding familyOf operationIn fromFast
+  from-12 h = working m e s eip i _ refl λ int dir v sh.
+      from-fits v m e s eip i int dir 9 0 _ refl refl
       (with-modrm v m eip i sh 12 0 _ (record { isClass = h; noOverride = refl; noEscape = refl; built = refl; defined = refl }) refl refl refl (number-none v m eip i sh _))
 
   address-19 : classOf b ≡ 19 → isDirect md ≡ false → FastOk m e s eip i (addressFast m e eip i md)
-  unfolding familyOf operationIn arithmeticFamily moveFamily
-  address-19 h mem _ int dir v sh =
+  unfolding familyOf operationIn arithmeticFamily moveFamily addressFast
+  address-19 h mem = working m e s eip i _ refl λ int dir v sh.
       address-fits v m e s eip i int dir (b % 16) 0 _ refl mem
       (with-modrm v m eip i sh 19 0 _ (record { isClass = h; noOverride = refl; noEscape = refl; built = refl; defined = refl }) refl (rw mem) refl (number-none v m eip i sh _))
 
   number-7 : (long : Bool) → classOf b ≡ 7 → longOpcode b ≡ long → FastOk m e s eip i (numberFast m e eip i long b md)
-  unfolding familyOf operationIn second compute computeArithmetic doCombineImmediate
-  number-7 long h l _ int dir v sh =
+  unfolding familyOf operationIn second compute computeArithmetic doCombineImmediate leftFast
+  number-7 long h l = working m e s eip i _ refl λ int dir v sh.
       let few = operand-few m (i + 2) md in
-      left-fits v m e s eip i int dir 3 (md / 8 % 8) (numberAt long m (i + upTo m i md)) _ (upTo m i md + cond long 4 1) (not-ten (md / 8)) (not-eleven (md / 8))
+      left-fits v m e s eip i int dir 3 (md / 8 % 8) (numberAt long m (i + upTo m i md)) _ (upTo m i md + cond long 4 1) (under-ten (md / 8))
       (with-modrm v m eip i sh 7 _ _ (record { isClass = h; noOverride = refl; noEscape = refl; built = refl; defined = refl }) refl refl refl (rw l (number-long v m eip i sh long (upTo m i md) (omega (arith, few)))))
       (λ _ _. refl) (first-number v m e s eip i int dir _ _ _) refl (λ a. refl)
 
   -- ---- without
 
   load-15 : classOf b ≡ 15 → FastOk m e s eip i (loadFast m eip i b)
-  unfolding familyOf operationIn
-  load-15 h _ int dir v sh =
+  unfolding familyOf operationIn loadFast
+  load-15 h = working m e s eip i _ refl λ int dir v sh.
       load-fits v m e s eip i int dir
       (without-modrm v m eip i sh 15 _ _ (record { isClass = h; noOverride = refl; noEscape = refl; built = refl; defined = refl }) refl refl (number-long v m eip i sh (eqb (b / 8 % 2) 1) 1 (omega arith)))
 
   inc-22 : classOf b ≡ 22 → FastOk m e s eip i (countFast e eip 10 b)
-  unfolding familyOf operationIn
-  inc-22 h _ int dir v sh =
+  unfolding familyOf operationIn countFast
+  inc-22 h = working m e s eip i _ refl λ int dir v sh.
       inc-fits v m e s eip i int dir 0
       (without-modrm v m eip i sh 22 0 1 (record { isClass = h; noOverride = refl; noEscape = refl; built = refl; defined = refl }) refl refl (number-none v m eip i sh 1))
 
   dec-23 : classOf b ≡ 23 → FastOk m e s eip i (countFast e eip 11 b)
-  unfolding familyOf operationIn
-  dec-23 h _ int dir v sh =
+  unfolding familyOf operationIn countFast
+  dec-23 h = working m e s eip i _ refl λ int dir v sh.
       dec-fits v m e s eip i int dir 0
       (without-modrm v m eip i sh 23 0 1 (record { isClass = h; noOverride = refl; noEscape = refl; built = refl; defined = refl }) refl refl (number-none v m eip i sh 1))
 
   push-26 : classOf b ≡ 26 → register (file e) (b % 8) < 4294967296 → FastOk m e s eip i (pushFast e (register (file e) (b % 8)) (wrap (eip + 1)))
-  unfolding familyOf operationIn arithmeticFamily moveFamily
-  push-26 h y _ int dir v sh =
+  unfolding familyOf operationIn arithmeticFamily moveFamily pushFast
+  push-26 h y = working m e s eip i _ refl λ int dir v sh.
       push-fits v m e s eip i int dir (b % 16) (b % 8) 0 1 y
       (without-modrm v m eip i sh 26 0 1 (record { isClass = h; noOverride = refl; noEscape = refl; built = refl; defined = refl }) refl refl (number-none v m eip i sh 1))
 
   pop-28 : classOf b ≡ 28 → FastOk m e s eip i (popFast e 5 (b % 8) (wrap (eip + 1)))
-  unfolding familyOf operationIn arithmeticFamily moveFamily
-  pop-28 h _ int dir v sh =
+  unfolding familyOf operationIn arithmeticFamily moveFamily popFast
+  pop-28 h = working m e s eip i _ refl λ int dir v sh.
       pop-fits v m e s eip i int dir (b % 16) 0 1
       (without-modrm v m eip i sh 28 0 1 (record { isClass = h; noOverride = refl; noEscape = refl; built = refl; defined = refl }) refl refl (number-none v m eip i sh 1))
 
   return-41 : classOf b ≡ 41 → FastOk m e s eip i (popFast e 6 8 (wrap (eip + 1)))
-  unfolding familyOf operationIn arithmeticFamily moveFamily flowFamily
-  return-41 h _ int dir v sh =
+  unfolding familyOf operationIn arithmeticFamily moveFamily flowFamily popFast
+  return-41 h = working m e s eip i _ refl λ int dir v sh.
       return-fits v m e s eip i int dir (b % 16) 0 1
       (without-modrm v m eip i sh 41 0 1 (record { isClass = h; noOverride = refl; noEscape = refl; built = refl; defined = refl }) refl refl (number-none v m eip i sh 1))
 
   -- ---- jumps and calls
 
   jump-36 : classOf b ≡ 36 → longOpcode b ≡ false → FastOk m e s eip i (jumpFast (cond (holds (b % 16) s) (wrap (wrap (eip + 2) + signed md)) (wrap (eip + 2))))
-  unfolding familyOf operationIn arithmeticFamily moveFamily flowFamily
-  jump-36 h l _ int dir v sh =
-      let de = without-modrm v m eip i sh 36 (signed md) 2 (record { isClass = h; noOverride = refl; noEscape = refl; built = refl; defined = refl }) refl refl (rw l (number-one v m eip i sh 1 (omega arith))) in
-      by (holds (b % 16) s) refl de
+  unfolding familyOf operationIn arithmeticFamily moveFamily flowFamily jumpFast
+  jump-36 h l = jumping m e s eip i _ (refl, (refl, refl)) λ int dir v sh.
+      by int dir v (holds (b % 16) s) refl
+      (without-modrm v m eip i sh 36 (signed md) 2 (record { isClass = h; noOverride = refl; noEscape = refl; built = refl; defined = refl }) refl refl (rw l (number-one v m eip i sh 1 (omega arith))))
     where
-      by : (c : Bool) → holds (b % 16) s ≡ c → decode eip v (logAt eip 0) ≡ ok (naming v m e s eip i int dir 17 (b % 16) true 0 (signed md) 2) (logAt eip 2)
+      by : (int dir : Bool) (v : View) (c : Bool) → holds (b % 16) s ≡ c → decode eip v (logAt eip 0) ≡ ok (naming v m e s eip i int dir 17 (b % 16) true 0 (signed md) 2) (logAt eip 2)
           → Fits v (coreFrom e eip s int dir) (jumpFast (cond (holds (b % 16) s) (wrap (wrap (eip + 2) + signed md)) (wrap (eip + 2))))
-      by true y de = rw y (jump-on v m e s eip i int dir (b % 16) 0 (signed md) 2 y de)
-      by false y de = rw y (jump-off v m e s eip i int dir (b % 16) 0 (signed md) 2 y de)
+      by int dir v true y de = rw y (jump-on v m e s eip i int dir (b % 16) 0 (signed md) 2 y de)
+      by int dir v false y de = rw y (jump-off v m e s eip i int dir (b % 16) 0 (signed md) 2 y de)
 
   jump-235 : b ≡ 235 → FastOk m e s eip i (jumpFast (wrap (wrap (eip + 2) + signed md)))
-  unfolding familyOf operationIn arithmeticFamily moveFamily flowFamily classOf
-  jump-235 h _ int dir v sh =
+  unfolding familyOf operationIn arithmeticFamily moveFamily flowFamily classOf jumpFast
+  jump-235 h = jumping m e s eip i _ (refl, (refl, refl)) λ int dir v sh.
       jump-fits v m e s eip i int dir (b % 16) 0 (signed md) 2
       (without-modrm v m eip i sh 39 (signed md) 2 (record { isClass = ap classOf h; noOverride = refl; noEscape = refl; built = refl; defined = refl }) refl refl (rw h (number-one v m eip i sh 1 (omega arith))))
 
   jump-233 : b ≡ 233 → FastOk m e s eip i (jumpFast (wrap (wrap (eip + 5) + dwordAt m (i + 1))))
-  unfolding familyOf operationIn arithmeticFamily moveFamily flowFamily classOf
-  jump-233 h _ int dir v sh =
+  unfolding familyOf operationIn arithmeticFamily moveFamily flowFamily classOf jumpFast
+  jump-233 h = jumping m e s eip i _ (refl, (refl, refl)) λ int dir v sh.
       jump-fits v m e s eip i int dir (b % 16) 0 (dwordAt m (i + 1)) 5
       (without-modrm v m eip i sh 39 (dwordAt m (i + 1)) 5 (record { isClass = ap classOf h; noOverride = refl; noEscape = refl; built = refl; defined = refl }) refl refl (rw h (number-four v m eip i sh 1 (omega arith))))
 
   call-232 : b ≡ 232 → FastOk m e s eip i (pushFast e (wrap (eip + 5)) (wrap (wrap (eip + 5) + dwordAt m (i + 1))))
-  unfolding familyOf operationIn arithmeticFamily moveFamily flowFamily classOf
-  call-232 h _ int dir v sh =
+  unfolding familyOf operationIn arithmeticFamily moveFamily flowFamily classOf pushFast
+  call-232 h = working m e s eip i _ refl λ int dir v sh.
       call-fits v m e s eip i int dir (b % 16) 0 (dwordAt m (i + 1)) 5
       (without-modrm v m eip i sh 40 (dwordAt m (i + 1)) 5 (record { isClass = ap classOf h; noOverride = refl; noEscape = refl; built = refl; defined = refl }) refl refl (rw h (number-four v m eip i sh 1 (omega arith))))
 

@@ -35,23 +35,28 @@ abbrev pub upTo : Mem → ℕ → ℕ → ℕ
 upTo mem i m = 2 + operandBytes mem (i + 2) m
 
 abbrev pub leftAccess : ℕ → ℕ → ℕ
-leftAccess m op = cond (isDirect m) 0 (cond (writes op) 2 1)
+leftAccess m op = cond (isDirect m) 0 (cond (writes op) 3 1)
 
-abbrev pub leftRegister : ℕ → ℕ
-leftRegister m = cond (isDirect m) (m % 8) 8
+-- the register that takes the result, 8 for none: CMP and TEST have none
+abbrev pub taking : ℕ → ℕ → ℕ
+taking op n = cond (writes op) n 8
+
+abbrev pub leftRegister : ℕ → ℕ → ℕ
+leftRegister m op = cond (isDirect m) (taking op (m % 8)) 8
 
 -- on the operand, by y: the instruction has n bytes
 unfoldable pub leftFast : Mem → List ℕ → ℕ → ℕ → ℕ → ℕ → ℕ → ℕ → ℕ → Fast
 leftFast mem e eip i op b m y n =
     record {
       taken = true;
+      jumps = false;
       op = op;
       wide = isOdd b;
       access = leftAccess m op;
       at = spotOf mem e i m;
       x = readAt (isOdd b) (file e) (m % 8);
       y = y;
-      to = leftRegister m;
+      to = leftRegister m op;
       next = wrap (eip + n);
     }
 
@@ -63,13 +68,14 @@ unfoldable pub fromFast : Mem → List ℕ → ℕ → ℕ → ℕ → ℕ → �
 fromFast mem e eip i op b m =
     record {
       taken = true;
+      jumps = false;
       op = op;
       wide = isOdd b;
-      access = cond (isDirect m) 0 3;
+      access = cond (isDirect m) 0 2;
       at = spotOf mem e i m;
       x = readAt (isOdd b) (file e) (m / 8 % 8);
       y = readAt (isOdd b) (file e) (m % 8);
-      to = m / 8 % 8;
+      to = taking op (m / 8 % 8);
       next = wrap (eip + upTo mem i m);
     }
 
@@ -83,13 +89,14 @@ numberFast mem e eip i long b m =
 
 unfoldable pub addressFast : Mem → List ℕ → ℕ → ℕ → ℕ → Fast
 addressFast mem e eip i m =
-    record { taken = true; op = 9; wide = true; access = 0; at = 0; x = 0; y = spotOf mem e i m; to = m / 8 % 8; next = wrap (eip + upTo mem i m) }
+    record { taken = true; jumps = false; op = 9; wide = true; access = 0; at = 0; x = 0; y = spotOf mem e i m; to = m / 8 % 8; next = wrap (eip + upTo mem i m) }
 
 -- MOV of an immediate into a register
 unfoldable pub loadFast : Mem → ℕ → ℕ → ℕ → Fast
 loadFast mem eip i b =
     record {
       taken = true;
+      jumps = false;
       op = 9;
       wide = eqb (b / 8 % 2) 1;
       access = 0;
@@ -103,15 +110,15 @@ loadFast mem eip i b =
 -- INC (10) and DEC (11) of a register
 unfoldable pub countFast : List ℕ → ℕ → ℕ → ℕ → Fast
 countFast e eip op b =
-    record { taken = true; op = op; wide = true; access = 0; at = 0; x = register (file e) (b % 8); y = 0; to = b % 8; next = wrap (eip + 1) }
+    record { taken = true; jumps = false; op = op; wide = true; access = 0; at = 0; x = register (file e) (b % 8); y = 0; to = b % 8; next = wrap (eip + 1) }
 
 unfoldable pub jumpFast : ℕ → Fast
-jumpFast eip = record { taken = true; op = 9; wide = true; access = 0; at = 0; x = 0; y = 0; to = 8; next = eip }
+jumpFast eip = record { taken = true; jumps = true; op = 9; wide = true; access = 0; at = 0; x = 0; y = 0; to = 8; next = eip }
 
 -- y is pushed, and the program goes on at eip
 unfoldable pub pushFast : List ℕ → ℕ → ℕ → Fast
-pushFast e y eip = record { taken = true; op = 9; wide = true; access = 4; at = lowered (file e); x = 0; y = y; to = 8; next = eip }
+pushFast e y eip = record { taken = true; jumps = false; op = 9; wide = true; access = 4; at = lowered (file e); x = 0; y = y; to = 8; next = eip }
 
 -- a pop into register n (5), or a return (6)
 unfoldable pub popFast : List ℕ → ℕ → ℕ → ℕ → Fast
-popFast e access n eip = record { taken = true; op = 9; wide = true; access = access; at = register (file e) 4; x = 0; y = 0; to = n; next = eip }
+popFast e access n eip = record { taken = true; jumps = false; op = 9; wide = true; access = access; at = register (file e) 4; x = 0; y = 0; to = n; next = eip }

@@ -2,12 +2,12 @@
 -- Assumes nothing.
 use Prim.Native.Nat.{ℕ, _+_, _<_}
 use mathlib.Core.Path.{_≡_}
-use mathlib.Core.Bool.{Bool, true, cond, _&&_, _||_}
+use mathlib.Core.Bool.{Bool, true, cond, _||_}
 use mathlib.Core.List.{List}
 use lib.Dec.{ltb, eqb}
 use Rattle.alu.specs.declared.Status.{Status}
 use Rattle.alu.specs.declared.Out.{Out}
-use Rattle.alu.specs.Arithmetic.{operate, operateOne, writes}
+use Rattle.alu.specs.Arithmetic.{operate, operateOne}
 use Rattle.machine.specs.declared.Registers.{Registers}
 use Rattle.machine.specs.declared.Core.{Core}
 use Rattle.machine.specs.declared.Reply.the-variants.{Done}
@@ -25,33 +25,34 @@ use Rattle.execute.specs.Execute.{permitted, first, second, compute}
 use Rattle.shortcut.specs.declared.Fast.{Fast}
 use Rattle.shortcut.specs.Bytes.{Shows}
 
--- ---- the one access: 0 none, 1 a read and 2 a read-and-write of the left operand, 3 a read of the right one, 4 a push, 5 a pop, 6 a return
+-- ---- the one access: 0 none, 1 a read of the left operand, 2 a read of the right one, 3 a read-and-write of the left one, 4 a push, 5 a pop,
+-- 6 a return
 
 abbrev pub asks : ℕ → Fast → Bool
 asks n p = eqb (p .access) n
 
 -- the memory operand's
 unfoldable pub wantFirst : Fast → Want
-wantFirst p = cond (asks 0 p || asks 4 p) Nothing (cond (asks 2 p) (Write (p .wide) (p .at)) (Read (p .wide) (p .at)))
+wantFirst p = cond (asks 0 p || asks 4 p) Nothing (cond (asks 3 p) (Write (p .wide) (p .at)) (Read (p .wide) (p .at)))
 
 -- what is pushed
 unfoldable pub wantSecond : Fast → Want
 wantSecond p = cond (asks 4 p) (Write (p .wide) (p .at)) Nothing
 
 abbrev pub stores : Fast → Bool
-stores p = asks 2 p || asks 4 p
+stores p = asks 3 p || asks 4 p
 
 -- ---- what comes of it, where a is the value found
 
 abbrev pub leftOf : Fast → ℕ → ℕ
-leftOf p a = cond (asks 1 p || asks 2 p) a (p .x)
+leftOf p a = cond (asks 1 p || asks 3 p) a (p .x)
 
 abbrev pub rightOf : Fast → ℕ → ℕ
-rightOf p a = cond (asks 3 p || asks 5 p) a (p .y)
+rightOf p a = cond (asks 2 p || asks 5 p) a (p .y)
 
--- by number as the operations of two operands have it; 10 is INC, 11 DEC
+-- by number as the operations of two operands have it, up to MOV, 9; 10 is INC, and any other DEC
 unfoldable pub outOf : ℕ → Bool → ℕ → ℕ → Status → Out
-outOf op wide x y s = cond (eqb op 10) (operateOne 0 wide x s) (cond (eqb op 11) (operateOne 1 wide x s) (operate op wide x y s))
+outOf op wide x y s = cond (ltb op 10) (operate op wide x y s) (cond (eqb op 10) (operateOne 0 wide x s) (operateOne 1 wide x s))
 
 unfoldable pub resultOf : Fast → ℕ → Status → Out
 resultOf p a s = outOf (p .op) (p .wide) (leftOf p a) (rightOf p a) s
@@ -60,8 +61,12 @@ resultOf p a s = outOf (p .op) (p .wide) (leftOf p a) (rightOf p a) s
 unfoldable pub stacked : Fast → Registers → Registers
 stacked p r = cond (asks 4 p) (withRegister r esp (p .at)) (cond (asks 5 p || asks 6 p) (withRegister r esp (wrap (p .at + 4))) r)
 
-unfoldable pub registersAfter : Fast → Registers → ℕ → Registers
-registersAfter p r x = cond (ltb (p .to) 8 && writes (p .op)) (writeAt (p .wide) (stacked p r) (p .to) x) (stacked p r)
+-- the register that takes the result x
+unfoldable pub depositOf : Fast → Registers → ℕ → Registers
+depositOf p r x = cond (ltb (p .to) 8) (writeAt (p .wide) r (p .to) x) r
+
+abbrev pub registersAfter : Fast → Registers → ℕ → Registers
+registersAfter p r x = depositOf p (stacked p r) x
 
 abbrev pub nextOf : Fast → ℕ → ℕ
 nextOf p a = cond (asks 6 p) a (p .next)
@@ -91,5 +96,10 @@ abbrev pub coreFrom : List ℕ → ℕ → Status → Bool → Bool → Core
 coreFrom e eip s interrupt direction =
     record { regs = record { e = e }; eip = eip; flags = record { status = s; interrupt = interrupt; direction = direction } }
 
-abbrev pub FastOk : Mem → List ℕ → Status → ℕ → ℕ → Fast → Type 0
-FastOk m e s eip i p = p .taken ≡ true → (interrupt direction : Bool) (v : View) → Shows v m eip i → Fits v (coreFrom e eip s interrupt direction) p
+-- a jump and nothing else: no access, and MOV to no register
+abbrev pub Idle : Fast → Type 0
+Idle p = (p .access ≡ 0) × ((p .op ≡ 9) × (p .to ≡ 8))
+
+pub record FastOk (m : Mem) (e : List ℕ) (s : Status) (eip i : ℕ) (p : Fast) : Type 0 where
+  pub fits : p .taken ≡ true → (interrupt direction : Bool) (v : View) → Shows v m eip i → Fits v (coreFrom e eip s interrupt direction) p
+  pub idle : p .jumps ≡ true → Idle p

@@ -139,7 +139,8 @@ fn sib(mem: &[u8], e: &[u32], j: usize, md: u32) -> Spot
     }
 }
 
-fn form(mem: &[u8], e: &[u32], j: usize, b: u32) -> Spot
+// A memory operand; b is the ModRM byte, and j the index of the byte after it.
+pub fn form(mem: &[u8], e: &[u32], j: usize, b: u32) -> Spot
     requires { ⌜ (j + 5 < length (now mem)) × (b < 192) ⌝ }
     ensures { λ r. ⌜ (r .at ≡ address (file (now (e .entry))) (operandAt (now (mem .entry)) j b)) × (r .upto ≡ 2 + operandBytes (now (mem .entry)) j b) ⌝ }
 {

@@ -1,28 +1,29 @@
 // A condition without its table's row: a constant table that is indexed in a function is laid out anew at each call.
 ghost use mathlib.Core.Path.{_≡_};
+ghost use Rattle.alu.specs.Brief.{statusIn};
 ghost use Rattle.conditions.specs.Conditions.{holds};
-use alu::Status;
+use alu::brief::Brief;
 
-pub fn holds(n: u32, f: Status) -> bool
-    ensures { λ r. ⌜ r ≡ holds n f ⌝ }
+pub fn holds(n: u32, f: Brief) -> bool
+    ensures { λ r. ⌜ r ≡ holds n (statusIn f) ⌝ }
 {
     match n {
         0 => f.of,
         1 => !f.of,
         2 => f.cf,
         3 => !f.cf,
-        4 => f.zf,
-        5 => !f.zf,
-        6 => f.cf | f.zf,
-        7 => !(f.cf | f.zf),
-        8 => f.sf,
-        9 => !f.sf,
-        10 => f.pf,
-        11 => !f.pf,
-        12 => f.sf != f.of,
-        13 => !(f.sf != f.of),
-        14 => f.zf | (f.sf != f.of),
-        15 => !(f.zf | (f.sf != f.of)),
+        4 => f.seen == 0,
+        5 => !(f.seen == 0),
+        6 => f.cf | (f.seen == 0),
+        7 => !(f.cf | (f.seen == 0)),
+        8 => 0x8000_0000 <= f.seen,
+        9 => !(0x8000_0000 <= f.seen),
+        10 => alu::even(f.seen),
+        11 => !alu::even(f.seen),
+        12 => (0x8000_0000 <= f.seen) != f.of,
+        13 => !((0x8000_0000 <= f.seen) != f.of),
+        14 => (f.seen == 0) | ((0x8000_0000 <= f.seen) != f.of),
+        15 => !((f.seen == 0) | ((0x8000_0000 <= f.seen) != f.of)),
         _ => false,
     }
 }

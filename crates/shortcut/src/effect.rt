@@ -4,93 +4,70 @@ ghost use mathlib.Core.Bool.{Bool, true, false, cond};
 ghost use Prim.Native.Nat.{ℕ, _+_, _*_, _/_, _%_, _<_, _≤_, _^_};
 ghost use lib.ListN.{length, set};
 ghost use Rattle.machine.specs.Record.{writeAt, replaced};
-ghost use Rattle.alu.specs.Arithmetic.{keepCarry};
-ghost use Rattle.shortcut.specs.Shortcut.{outOf, resultOf, stacked, registersAfter};
+ghost use Rattle.alu.specs.Brief.{statusIn, outIn};
+ghost use Rattle.shortcut.specs.Shortcut.{outOf, resultOf, stacked, depositOf};
 ghost use Rattle.shortcut.specs.Forms.{file};
 use crate::Fast;
-use alu::Out;
-use alu::Status;
+use alu::brief::Brief;
+use alu::brief::Short;
 
-// The result, with the carry flag as it was before.
-fn keep(s: Status, o: Out) -> Out
-    ensures { λ r. ⌜ r ≡ record { value = o .value; status = keepCarry s (o .status) } ⌝ }
-{
-    let t = o.status;
-    Out {
-        value: o.value,
-        status: Status {
-            cf: s.cf,
-            pf: t.pf,
-            af: t.af,
-            zf: t.zf,
-            sf: t.sf,
-            of: t.of,
-        },
-    }
-}
-
-fn dwords(op: u32, x: u32, y: u32, s: Status) -> Out
-    ensures { λ r. ⌜ r ≡ outOf op true x y s ⌝ }
+fn dwords(op: u32, x: u32, y: u32, f: Brief) -> Short
+    ensures { λ r. ⌜ outIn r ≡ outOf op true x y (statusIn f) ⌝ }
 {
     match op {
-        0 => alu::add32(x, y, false),
-        1 => alu::logic32(x | y, s),
-        2 => alu::add32(x, y, s.cf),
-        3 => alu::sub32(x, y, s.cf),
-        4 => alu::logic32(x & y, s),
-        5 => alu::sub32(x, y, false),
-        6 => alu::logic32(x ^ y, s),
-        7 => alu::sub32(x, y, false),
-        8 => alu::logic32(x & y, s),
-        10 => keep(s, alu::add32(x, 1, false)),
-        11 => keep(s, alu::sub32(x, 1, false)),
-        _ => Out {
-            value: y,
-            status: s,
-        },
+        0 => alu::brief::add32(x, y, false),
+        1 => alu::brief::logic32(x | y, f),
+        2 => alu::brief::add32(x, y, f.cf),
+        3 => alu::brief::sub32(x, y, f.cf),
+        4 => alu::brief::logic32(x & y, f),
+        5 => alu::brief::sub32(x, y, false),
+        6 => alu::brief::logic32(x ^ y, f),
+        7 => alu::brief::sub32(x, y, false),
+        8 => alu::brief::logic32(x & y, f),
+        9 => Short { value: y, flags: f },
+        10 => alu::brief::keep_carry(f, alu::brief::add32(x, 1, false)),
+        _ => alu::brief::keep_carry(f, alu::brief::sub32(x, 1, false)),
     }
 }
 
-// Field by field: a record that is copied whole from a call's answer would have to stand in memory.
-fn apart(o: Out) -> Out
-    ensures { λ r. ⌜ r ≡ o ⌝ }
+fn on_bytes(op: u32, x: u8, y: u8, f: Brief) -> Short
+    ensures { λ r. ⌜ outIn r ≡ outOf op false x y (statusIn f) ⌝ }
 {
-    let t = o.status;
-    Out {
-        value: o.value,
-        status: Status {
-            cf: t.cf,
-            pf: t.pf,
-            af: t.af,
-            zf: t.zf,
-            sf: t.sf,
-            of: t.of,
+    match op {
+        0 => alu::brief::add8(x, y, false),
+        1 => alu::brief::logic8(x | y, f),
+        2 => alu::brief::add8(x, y, f.cf),
+        3 => alu::brief::sub8(x, y, f.cf),
+        4 => alu::brief::logic8(x & y, f),
+        5 => alu::brief::sub8(x, y, false),
+        6 => alu::brief::logic8(x ^ y, f),
+        7 => alu::brief::sub8(x, y, false),
+        8 => alu::brief::logic8(x & y, f),
+        9 => Short {
+            value: y as u32,
+            flags: f,
         },
+        10 => alu::brief::keep_carry(f, alu::brief::add8(x, 1, false)),
+        _ => alu::brief::keep_carry(f, alu::brief::sub8(x, 1, false)),
     }
 }
 
-fn bytes(op: u32, x: u32, y: u32, s: Status) -> Out
-    ensures { λ r. ⌜ r ≡ outOf op false x y s ⌝ }
+fn bytes(op: u32, x: u32, y: u32, f: Brief) -> Short
+    ensures { λ r. ⌜ outIn r ≡ outOf op false x y (statusIn f) ⌝ }
 {
-    if op == 10 {
-        return alu::operate_one(0, false, x, s);
-    }
-    if op == 11 {
-        return alu::operate_one(1, false, x, s);
-    }
-    alu::operate(op, false, x, y, s)
+    on_bytes(op, (x % 256) as u8, (y % 256) as u8, f)
 }
 
 // The value and the flags.
-pub fn result(p: Fast, a: u32, s: Status) -> Out
-    ensures { λ r. ⌜ r ≡ resultOf p a s ⌝ }
+pub fn result(p: Fast, a: u32, f: Brief) -> Short
+    ensures { λ r. ⌜ outIn r ≡ resultOf p a (statusIn f) ⌝ }
 {
-    let x = crate::either((p.access == 1) | (p.access == 2), a, p.x);
-    let y = crate::either((p.access == 3) | (p.access == 5), a, p.y);
+    let x = crate::either((p.access == 1) | (p.access == 3), a, p.x);
+    let y = crate::either((p.access == 2) | (p.access == 5), a, p.y);
     if p.wide {
-        return dwords(p.op, x, y, s);
+        return dwords(p.op, x, y, f);
     }
-    apart(bytes(p.op, x, y, s))
+    bytes(p.op, x, y, f)
 }
 
 fn put(e: &mut [u32], n: u32, x: u32)
@@ -123,7 +100,7 @@ fn write(e: &mut [u32], w: bool, n: u32, x: u32)
 }
 
 // ESP, after a push, a pop or a return.
-fn restack(e: &mut [u32], p: Fast)
+pub fn restack(e: &mut [u32], p: Fast)
     ensures { λ r. ⌜ now (e .exit) ≡ stacked p (file (now (e .entry))) .e ⌝ }
 {
     if p.access == 4 {
@@ -135,12 +112,11 @@ fn restack(e: &mut [u32], p: Fast)
     }
 }
 
-// The registers, once the result x is there.
+// The result x goes to its register.
 pub fn deposit(e: &mut [u32], p: Fast, x: u32)
-    ensures { λ r. ⌜ now (e .exit) ≡ registersAfter p (file (now (e .entry))) x .e ⌝ }
+    ensures { λ r. ⌜ now (e .exit) ≡ depositOf p (file (now (e .entry))) x .e ⌝ }
 {
-    restack(e, p);
-    if (p.to < 8) & alu::writes(p.op) {
+    if p.to < 8 {
         write(e, p.wide, p.to, x);
     }
 }

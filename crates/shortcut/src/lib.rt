@@ -14,15 +14,17 @@ ghost use Rattle.conditions.specs.Conditions.{holds};
 ghost use Rattle.encoding.specs.Encodings.{Classed, classOf};
 ghost use Rattle.decode.specs.Decode.{signed};
 ghost use Rattle.alu.specs.declared.Status.{Status};
+ghost use Rattle.alu.specs.Brief.{statusIn};
 ghost use Rattle.shortcut.specs.Shortcut.{FastOk};
-ghost use Rattle.shortcut.specs.Forms.{file, toFast, fromFast, numberFast, addressFast, loadFast, countFast, jumpFast, pushFast, popFast, leftAccess, leftRegister, operationOf};
-use alu::Status;
+ghost use Rattle.shortcut.specs.Forms.{file, toFast, fromFast, numberFast, addressFast, loadFast, countFast, jumpFast, pushFast, popFast, leftAccess, taking, leftRegister, operationOf};
+use alu::brief::Brief;
 
-// An instruction: is it taken; the operation (10 INC, 11 DEC, else as for two operands); a dword's or a byte's; the access (0 none, 1 a read
-// and 2 a read-and-write of x, 3 a read of y, 4 a push, 5 a pop, 6 a return) and its address; the operands; the register that takes the
-// result, 8 for none; the next EIP.
+// An instruction: is it taken; is it a jump and nothing else; the operation (10 INC, 11 DEC, else as for two operands); a dword's or a byte's;
+// the access (0 none, 1 a read of x, 2 of y, 3 a read-and-write of x, 4 a push, 5 a pop, 6 a return) and its address; the operands; the
+// register that takes the result, 8 for none; the next EIP.
 pub struct Fast {
     pub taken: bool,
+    pub jumps: bool,
     pub op: u32,
     pub wide: bool,
     pub access: u32,
@@ -35,10 +37,11 @@ pub struct Fast {
 
 // Not taken.
 fn none() -> Fast
-    ensures { λ r. ⌜ r .taken ≡ false ⌝ }
+    ensures { λ r. ⌜ (r .taken ≡ false) × (r .jumps ≡ false) ⌝ }
 {
     Fast {
         taken: false,
+        jumps: false,
         op: 0,
         wide: true,
         access: 0,
@@ -62,13 +65,19 @@ fn left_access(m: u32, op: u32) -> u32
     if 192 <= m {
         return 0;
     }
-    if alu::writes(op) { 2 } else { 1 }
+    if alu::writes(op) { 3 } else { 1 }
 }
 
-fn left_register(m: u32) -> u32
-    ensures { λ r. ⌜ r ≡ leftRegister m ⌝ }
+fn taking(op: u32, n: u32) -> u32
+    ensures { λ r. ⌜ r ≡ taking op n ⌝ }
 {
-    if 192 <= m { m % 8 } else { 8 }
+    if alu::writes(op) { n } else { 8 }
+}
+
+fn left_register(m: u32, op: u32) -> u32
+    ensures { λ r. ⌜ r ≡ leftRegister m op ⌝ }
+{
+    if 192 <= m { taking(op, m % 8) } else { 8 }
 }
 
 // The operand by a register.
@@ -80,13 +89,14 @@ fn to_operand(mem: &[u8], e: &[u32], eip: u32, i: usize, op: u32, b: u32, m: u32
     let w = b % 2 == 1;
     Fast {
         taken: true,
+        jumps: false,
         op,
         wide: w,
         access: left_access(m, op),
         at: q.at,
         x: bytes::read(e, w, m % 8),
         y: bytes::read(e, w, m / 8 % 8),
-        to: left_register(m),
+        to: left_register(m, op),
         next: std::num::wrapping_add_u32(eip, q.upto),
     }
 }
@@ -100,13 +110,14 @@ fn from_operand(mem: &[u8], e: &[u32], eip: u32, i: usize, op: u32, b: u32, m: u
     let w = b % 2 == 1;
     Fast {
         taken: true,
+        jumps: false,
         op,
         wide: w,
-        access: either(192 <= m, 0, 3),
+        access: either(192 <= m, 0, 2),
         at: q.at,
         x: bytes::read(e, w, m / 8 % 8),
         y: bytes::read(e, w, m % 8),
-        to: m / 8 % 8,
+        to: taking(op, m / 8 % 8),
         next: std::num::wrapping_add_u32(eip, q.upto),
     }
 }
@@ -121,24 +132,26 @@ fn by_number(mem: &[u8], e: &[u32], eip: u32, i: usize, long: bool, b: u32, m: u
     let op = m / 8 % 8;
     Fast {
         taken: true,
+        jumps: false,
         op,
         wide: w,
         access: left_access(m, op),
         at: q.at,
         x: bytes::read(e, w, m % 8),
         y: bytes::number(mem, i + q.upto as usize, long),
-        to: left_register(m),
+        to: left_register(m, op),
         next: std::num::wrapping_add_u32(eip, q.upto + either(long, 4, 1)),
     }
 }
 
 fn address_of(mem: &[u8], e: &[u32], eip: u32, i: usize, m: u32) -> Fast
-    requires { ⌜ i + 16 ≤ length (now mem) ⌝ }
+    requires { ⌜ (i + 16 ≤ length (now mem)) × (m < 192) ⌝ }
     ensures { λ r. ⌜ r ≡ addressFast (now (mem .entry)) (now (e .entry)) eip i m ⌝ }
 {
-    let q = bytes::operand(mem, e, i, m);
+    let q = bytes::form(mem, e, i + 2, m);
     Fast {
         taken: true,
+        jumps: false,
         op: 9,
         wide: true,
         access: 0,
@@ -157,6 +170,7 @@ fn load(mem: &[u8], eip: u32, i: usize, b: u32) -> Fast
     let w = b / 8 % 2 == 1;
     Fast {
         taken: true,
+        jumps: false,
         op: 9,
         wide: w,
         access: 0,
@@ -173,6 +187,7 @@ fn count(e: &[u32], eip: u32, op: u32, b: u32) -> Fast
 {
     Fast {
         taken: true,
+        jumps: false,
         op,
         wide: true,
         access: 0,
@@ -189,6 +204,7 @@ fn jump(eip: u32) -> Fast
 {
     Fast {
         taken: true,
+        jumps: true,
         op: 9,
         wide: true,
         access: 0,
@@ -205,6 +221,7 @@ fn push(e: &[u32], y: u32, eip: u32) -> Fast
 {
     Fast {
         taken: true,
+        jumps: false,
         op: 9,
         wide: true,
         access: 4,
@@ -221,6 +238,7 @@ fn pop(e: &[u32], access: u32, n: u32, eip: u32) -> Fast
 {
     Fast {
         taken: true,
+        jumps: false,
         op: 9,
         wide: true,
         access,
@@ -233,9 +251,9 @@ fn pop(e: &[u32], access: u32, n: u32, eip: u32) -> Fast
 }
 
 // Jcc by a byte.
-fn jump_if(s: Status, eip: u32, b: u32, m: u32) -> Fast
+fn jump_if(s: Brief, eip: u32, b: u32, m: u32) -> Fast
     requires { ⌜ m < 256 ⌝ }
-    ensures { λ r. ⌜ r ≡ jumpFast (cond (holds (b % 16) s) (wrap (wrap (eip + 2) + signed m)) (wrap (eip + 2))) ⌝ }
+    ensures { λ r. ⌜ r ≡ jumpFast (cond (holds (b % 16) (statusIn s)) (wrap (wrap (eip + 2) + signed m)) (wrap (eip + 2))) ⌝ }
 {
     let next = std::num::wrapping_add_u32(eip, 2);
     if condition::holds(b % 16, s) {
@@ -287,9 +305,9 @@ fn by_opcode(mem: &[u8], e: &[u32], eip: u32, i: usize, b: u32, m: u32) -> Fast
 }
 
 // Opcodes without ModRM, by their class.
-fn plain(mem: &[u8], e: &[u32], s: Status, eip: u32, i: usize, c: u32, b: u32, m: u32) -> Fast
+fn plain(mem: &[u8], e: &[u32], s: Brief, eip: u32, i: usize, c: u32, b: u32, m: u32) -> Fast
     requires { ⌜ (i + 16 ≤ length (now mem)) × ((b ≡ at (now mem) i) × ((m ≡ at (now mem) (i + 1)) × ((m < 256) × (c ≡ classOf b)))) ⌝ }
-    ensures { λ r. ⌜ FastOk (now (mem .entry)) (now (e .entry)) s eip i r ⌝ }
+    ensures { λ r. ⌜ FastOk (now (mem .entry)) (now (e .entry)) (statusIn s) eip i r ⌝ }
 {
     match c {
         15 => load(mem, eip, i, b),
@@ -313,9 +331,9 @@ fn plain(mem: &[u8], e: &[u32], s: Status, eip: u32, i: usize, c: u32, b: u32, m
 }
 
 // The instruction at index i of memory, where sixteen bytes are there.
-pub fn quick(mem: &[u8], t: &[u8; 512], e: &[u32], s: Status, eip: u32, i: usize) -> Fast
+pub fn quick(mem: &[u8], t: &[u8; 512], e: &[u32], s: Brief, eip: u32, i: usize) -> Fast
     requires { ⌜ (i + 16 ≤ length (now mem)) × (Classed (now t)) ⌝ }
-    ensures { λ r. ⌜ FastOk (now (mem .entry)) (now (e .entry)) s eip i r ⌝ }
+    ensures { λ r. ⌜ FastOk (now (mem .entry)) (now (e .entry)) (statusIn s) eip i r ⌝ }
 {
     let b = bytes::byte(mem, i);
     let m = bytes::byte(mem, i + 1);

@@ -1,6 +1,6 @@
 -- A run, one step further. Assumes nothing.
 use Prim.Native.Nat.{ℕ, suc, _+_, _-_, _<_}
-use mathlib.Core.Path.{_≡_, sym, ap, _∙_}
+use mathlib.Core.Path.{_≡_, refl, sym, ap, _∙_}
 use mathlib.Core.Bool.{Bool, true, false}
 use native.Mathlib.Omega.{arith}
 use Rattle.machine.specs.declared.Cpu.{Cpu}
@@ -13,6 +13,15 @@ use Rattle.swift.specs.Swift.{after}
 
 one-left : (n b : ℕ) → n < b → b - n ≡ suc (b - (n + 1))
 one-left n b h = omega arith
+
+pub no-steps : (b : ℕ) (m : Mem) (r : Cpu) → steps micro32 b m r ≡ after 0 (steps micro32 (b - 0) m r)
+no-steps b m r = by (steps micro32 b m r) refl
+  where
+    by : (x : End) → x ≡ steps micro32 b m r → steps micro32 b m r ≡ after 0 (steps micro32 (b - 0) m r)
+    by x h =
+        let z : b ≡ b - 0 = omega arith in
+        let y : x .count ≡ 0 + x .count = omega arith in
+        sym h ∙ (λ i. record { count = y i; last = x .last }) ∙ ap (after 0) (h ∙ ap (λ (n : ℕ). steps micro32 n m r) z)
 
 module _ (n k : ℕ) (m : Mem) (r : Cpu) where
   steps-on : isDone (step micro32 m r .reply) ≡ true → after k (steps micro32 (suc n) m r) ≡ after (k + 1) (steps micro32 n (step micro32 m r .mem) (step micro32 m r .cpu))

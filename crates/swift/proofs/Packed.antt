@@ -1,7 +1,7 @@
 -- A core put into a record and taken out again, and a record taken apart and put together.
 -- Assumes nothing.
 use Prim.Native.Nat.{ℕ, _+_, _*_, _/_, _%_, _<_, _≤_}
-use mathlib.Core.Path.{_≡_, refl, sym, ap, _∙_}
+use mathlib.Core.Path.{_≡_, refl}
 use mathlib.Core.Bool.{Bool, true, false, _&&_, false≢true}
 use native.Mathlib.Omega.{arith}
 use native.Mathlib.Nat.{mod-lt}
@@ -11,7 +11,7 @@ use lib.Dec.{eqb, ltb, lit<}
 use Rattle.machine.specs.declared.Flags.{Flags}
 use Rattle.machine.specs.declared.Core.{Core}
 use Rattle.machine.specs.declared.Cpu.{Cpu}
-use Rattle.machine.specs.Record.{Mem, has, digit, iopl, flagsIn, pack, sizeSound, ringSound, cr0Sound, cr3Sound, flagsSound, soundAt, sound, coreOf, withCore}
+use Rattle.machine.specs.Record.{Mem, digit, iopl, flagsIn, pack, sizeSound, ringSound, cr0Sound, cr3Sound, flagsSound, soundAt, sound, coreOf, withCore}
 use Rattle.isolation.proofs.Ring3.{digit-small}
 
 -- ---- taken out again

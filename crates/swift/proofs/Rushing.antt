@@ -1,6 +1,6 @@
 -- Quick steps one after another are the definition's steps.
 -- Assumes nothing.
-use Prim.Native.Nat.{ℕ, suc, _+_, _-_, _<_, _≤_}
+use Prim.Native.Nat.{ℕ, _+_, _-_, _≤_}
 use mathlib.Core.Path.{_≡_, refl, sym, ap, _∙_}
 use mathlib.Core.Bool.{Bool, true, false, _&&_, false≢true}
 use mathlib.Core.List.{List}
@@ -11,29 +11,18 @@ use Rattle.machine.specs.declared.Control.{Control}
 use Rattle.machine.specs.declared.Cpu.{Cpu}
 use Rattle.machine.specs.declared.Reply.the-variants.{Done}
 use Rattle.machine.specs.Record.{Mem, has, sound, withCore}
-use Rattle.machine.specs.Run.{Outcome, End, step, steps}
+use Rattle.machine.specs.Run.{Outcome, step, steps}
 use Rattle.isolation.proofs.Ring3.{step-sound}
-use Rattle.paging.specs.declared.quiet.Kept.{Kept}
+use Rattle.alu.specs.Brief.{statusIn}
 use Rattle.shortcut.specs.Shortcut.{coreFrom}
 use Rattle.swift.specs.declared.Rest.{Rest}
 use Rattle.swift.specs.declared.Swift.{Swift}
 use Rattle.phases.specs.Step.{micro32}
-use Rattle.swift.specs.Swift.{current, SwiftOk, after, Led, RushOk}
-use Rattle.swift.proofs.Onward.{went-on}
-
--- another page kept changes nothing
-pub through : {m : Mem} {e : List ℕ} {c : Control} {r : Rest} (h : Kept) {m′ : Mem} {e′ : List ℕ} {w : Swift}
-    → SwiftOk m e c (record { eip = r .eip; status = r .status; kept = h }) m′ e′ w → SwiftOk m e c r m′ e′ w
-through h k = record { did = k .did; not = k .not; kept = k .kept }
+use Rattle.swift.specs.Swift.{current, SwiftOk, after, RushOk}
+use Rattle.swift.proofs.Onward.{went-on, no-steps}
 
 pub rush-begun : (m : Mem) (e : List ℕ) (c : Control) (r : Rest) → RushOk m e c r 0 m e r
-rush-begun m e c r d hc good = record { holds = good; went = λ b _. none b (steps micro32 b m (current d e r)) refl }
-  where
-    none : (b : ℕ) (x : End) → x ≡ steps micro32 b m (current d e r) → steps micro32 b m (current d e r) ≡ after 0 (steps micro32 (b - 0) m (current d e r))
-    none b x h =
-        let z : b ≡ b - 0 = omega arith in
-        let y : x .count ≡ 0 + x .count = omega arith in
-        sym h ∙ (λ i. record { count = y i; last = x .last }) ∙ ap (after 0) (h ∙ ap (λ (n : ℕ). steps micro32 n m (current d e r)) z)
+rush-begun m e c r d hc good = record { holds = good; went = λ b _. no-steps b m (current d e r) }
 
 module _ (m₀ : Mem) (e₀ : List ℕ) (c : Control) (r₀ : Rest) (n : ℕ) (m : Mem) (e : List ℕ) (r : Rest) (k : RushOk m₀ e₀ c r₀ n m e r) (m′ : Mem) (e′ : List ℕ) (w : Swift)
     (s : SwiftOk m e c r m′ e′ w) where
@@ -51,11 +40,26 @@ module _ (m₀ : Mem) (e₀ : List ℕ) (c : Control) (r₀ : Rest) (n : ℕ) (m
   rush-ended h d hc good =
       let l = k d hc good in
       let q = s .not h in
-      let f : current d e′ (w .rest) ≡ current d e r = λ j. withCore d (coreFrom (q .1 .0 j) (q .1 .1 .0 j) (q .1 .1 .1 j) (has 512 (d .eflags)) (has 1024 (d .eflags))) in
+      let f : current d e′ (w .rest) ≡ current d e r = λ j. withCore d (coreFrom (q .1 .0 j) (q .1 .1 .0 j) (statusIn (q .1 .1 .1 j)) (has 512 (d .eflags)) (has 1024 (d .eflags))) in
       record {
         holds = (λ j. sound (q .0 j) (f j)) ∙ l .holds;
         went = λ b j. l .went b j ∙ ap (after n) (sym (λ t. steps micro32 (b - n) (q .0 t) (f t)));
       }
+
+-- another page kept changes nothing
+pub rush-turned : {m₀ : Mem} {e₀ : List ℕ} {c : Control} {r₀ : Rest} {n : ℕ} {m : Mem} {e : List ℕ} {r : Rest} → RushOk m₀ e₀ c r₀ n m e r
+    → (r′ : Rest) → r′ .eip ≡ r .eip → r′ .flags ≡ r .flags → RushOk m₀ e₀ c r₀ n m e r′
+rush-turned {n = n} {m = m} {e = e} {r = r} k r′ ei ef d hc good =
+    let l = k d hc good in
+    let f : current d e r′ ≡ current d e r = λ j. withCore d (coreFrom e (ei j) (statusIn (ef j)) (has 512 (d .eflags)) (has 1024 (d .eflags))) in
+    record { holds = ap (sound m) f ∙ l .holds; went = λ b j. l .went b j ∙ ap (λ (x : Cpu). after n (steps micro32 (b - n) m x)) (sym f) }
+
+pub rush-from : {m₀ : Mem} {e₀ : List ℕ} {c : Control} {r₀ : Rest} {n : ℕ} {m : Mem} {e : List ℕ} {r : Rest} (r₁ : Rest) → r₀ .eip ≡ r₁ .eip → r₀ .flags ≡ r₁ .flags
+    → RushOk m₀ e₀ c r₀ n m e r → RushOk m₀ e₀ c r₁ n m e r
+rush-from {m₀ = m₀} {e₀ = e₀} {r₀ = r₀} r₁ ei ef k d hc good =
+    let f : current d e₀ r₀ ≡ current d e₀ r₁ = λ j. withCore d (coreFrom e₀ (ei j) (statusIn (ef j)) (has 512 (d .eflags)) (has 1024 (d .eflags))) in
+    let l = k d hc (ap (sound m₀) f ∙ good) in
+    record { holds = l .holds; went = λ b j. ap (steps micro32 b m₀) (sym f) ∙ l .went b j }
 
 -- ---- from the code's test
 

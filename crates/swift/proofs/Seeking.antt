@@ -1,9 +1,9 @@
 -- The one access of a short form is the definition's two, found with nothing to mark; and a store elsewhere leaves a kept page as it is.
 -- Assumes nothing.
-use Prim.Native.Nat.{ℕ, _+_, _*_, _/_, _%_, _<_, _≤_}
+use Prim.Native.Nat.{ℕ, _+_, _/_, _%_, _<_, _≤_}
 use mathlib.Core.Path.{_≡_, refl, sym, ap, _∙_}
 use mathlib.Core.Bool.{Bool, true, false, cond, _&&_, _||_, false≢true}
-use mathlib.Core.List.{List, [], _∷_, append-nil}
+use mathlib.Core.List.{List, [], append-nil}
 use native.Mathlib.Omega.{arith}
 use native.Mathlib.Decide.{ℕ-discrete}
 use borrow.Author.Tests.{ne-eqb, eqb-true, eqb-false, ltb-false}
@@ -21,7 +21,7 @@ use Rattle.paging.specs.declared.quiet.Kept.{Kept}
 use Rattle.paging.specs.Walked.{patchesOf}
 use Rattle.paging.specs.declared.quiet.Settled.{Settled}
 use Rattle.paging.specs.declared.quiet.Settled.the-variants.{Ready}
-use Rattle.paging.specs.Quiet.{Quiet, SettledOk, Agree, Stays, KeptOk}
+use Rattle.paging.specs.Quiet.{Quiet, SettledOk, Agree, KeptOk}
 use Rattle.paging.proofs.Settling.{no-page-ok}
 use Rattle.access.specs.declared.Access.{Access}
 use Rattle.access.specs.Located.{asked, trailMarks, placed, puts, nowhere, Held}
@@ -37,9 +37,9 @@ use Rattle.swift.specs.Swift.{spotted, saved, Reaches}
 module _ (p : Fast) where
   want-first : (p .access ≡ 0 → ⊥) → asks 4 p ≡ false → wantFirst p ≡ asked (stores p) (p .wide) (p .at)
   unfolding wantFirst
-  want-first n h = by (asks 2 p) refl
+  want-first n h = by (asks 3 p) refl
     where
-      by : (w : Bool) → asks 2 p ≡ w → wantFirst p ≡ asked (stores p) (p .wide) (p .at)
+      by : (w : Bool) → asks 3 p ≡ w → wantFirst p ≡ asked (stores p) (p .wide) (p .at)
       by true h′ = rw (ne-eqb _ _ n, h, h′)
       by false h′ = rw (ne-eqb _ _ n, h, h′)
 

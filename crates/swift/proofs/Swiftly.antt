@@ -1,19 +1,24 @@
 -- A quick step that says done is the definition's step.
 -- Assumes nothing.
-use Prim.Native.Nat.{ℕ, _+_, _*_, _/_, _%_, _<_, _≤_}
+use Prim.Native.Nat.{ℕ, _+_, _/_, _%_, _<_, _≤_}
 use mathlib.Core.Path.{_≡_, refl, sym, ap, _∙_}
 use mathlib.Core.Bool.{Bool, true, false, cond, false≢true}
 use mathlib.Core.List.{List, append-nil}
 use native.Mathlib.Omega.{arith}
 use lib.ListN.{length}
+use borrow.Author.Tests.{ne-eqb}
+use Rattle.alu.specs.declared.Status.{Status}
 use Rattle.alu.specs.declared.Out.{Out}
+use Rattle.alu.specs.Arithmetic.{operate, operation}
+use Rattle.alu.specs.Brief.{statusIn}
+use Rattle.machine.specs.declared.Registers.{Registers}
 use Rattle.machine.specs.declared.Control.{Control}
 use Rattle.machine.specs.declared.Core.{Core}
 use Rattle.machine.specs.declared.Cpu.{Cpu}
 use Rattle.machine.specs.declared.Reply.the-variants.{Done}
 use Rattle.machine.specs.Record.{Mem, at, wrap, iopl, has, sound, withCore}
 use Rattle.machine.specs.Replies.{isDone}
-use Rattle.machine.specs.Paging.{Byte, At, translate, view}
+use Rattle.machine.specs.Paging.{At, translate, view}
 use Rattle.machine.specs.Commit.{Patch, patches}
 use Rattle.machine.specs.Run.{step}
 use Rattle.paging.specs.declared.Marks.the-variants.{None}
@@ -28,14 +33,15 @@ use Rattle.execute.specs.Execute.{compute}
 use Rattle.shortcut.specs.declared.Fast.{Fast}
 use Rattle.shortcut.specs.Bytes.{Shows}
 use Rattle.shortcut.specs.Forms.{file}
-use Rattle.shortcut.specs.Shortcut.{stores, resultOf, registersAfter, nextOf, coreAfter, Fits, coreFrom, FastOk}
+use Rattle.shortcut.specs.Shortcut.{asks, stores, outOf, resultOf, stacked, depositOf, registersAfter, nextOf, coreAfter, Fits, coreFrom, Idle, FastOk}
 use Rattle.phases.specs.declared.Planned.{Planned}
 use Rattle.swift.specs.declared.Rest.{Rest}
 use Rattle.swift.specs.declared.Sought.{Sought}
 use Rattle.phases.specs.Step.{micro32}
-use Rattle.phases.specs.Planned.{accessMarks, left}
+use Rattle.phases.specs.Planned.{left}
 use Rattle.swift.specs.Swift.{spotted, saved, Reaches, current, SwiftOk}
 use Rattle.swift.proofs.Packed.{core-back, core-again}
+use Rattle.swift.proofs.Seeking.{none-reached}
 use Rattle.phases.proofs.Plans.{ready}
 use Rattle.phases.proofs.Steps.{step-on}
 
@@ -46,6 +52,35 @@ saved-same p i v v′ m h = by (stores p) h
     by : (b : Bool) → (b ≡ true → v ≡ v′) → cond b (patches (placed (spotted p i) v) m) m ≡ cond b (patches (placed (spotted p i) v′) m) m
     by true g = ap (λ (x : ℕ). patches (placed (spotted p i) x) m) (g refl)
     by false g = refl
+
+-- ---- accesses that store nothing and leave the stack, and jumps
+
+module _ (p : Fast) (h : p .access < 3) where
+  no : (n : ℕ) → 3 ≤ n → asks n p ≡ false
+  no n k = ne-eqb (p .access) n (λ q. omega (arith, h, k, q))
+
+  few-stacked : (x : Registers) → stacked p x ≡ x
+  unfolding stacked
+  few-stacked x = rw (no 4 (omega arith), no 5 (omega arith), no 6 (omega arith))
+
+  few-saved : (i v : ℕ) (m : Mem) → saved p i v m ≡ m
+  unfolding saved
+  few-saved i v m = rw (no 3 (omega arith), no 4 (omega arith))
+
+  few-next : (a : ℕ) → nextOf p a ≡ p .next
+  few-next a = rw (no 6 (omega arith))
+
+module _ (p : Fast) (idle : Idle p) where
+  idle-deposit : (x : Registers) (v : ℕ) → depositOf p x v .e ≡ x .e
+  unfolding depositOf
+  idle-deposit x v = rw (idle .1 .1)
+
+  abbrev idleOut : ℕ → Status → Out
+  idleOut a s = record { value = resultOf p a s .value; status = s }
+
+  idle-result : (a : ℕ) (s : Status) → resultOf p a s ≡ idleOut a s
+  unfolding resultOf outOf operate operation
+  idle-result a s = rw (idle .1 .0)
 
 module _ (m : Mem) (size : length m % 4096 ≡ 0) (e : List ℕ) (r : Rest) (d : Cpu) (kept : KeptOk m (d .control) (r .kept)) (small : r .eip < 4294967296)
     (page : r .eip / 4096 ≡ r .kept .page) (room : r .eip % 4096 ≤ 4080) where
@@ -78,7 +113,7 @@ module _ (m : Mem) (size : length m % 4096 ≡ 0) (e : List ℕ) (r : Rest) (d :
       same-page : (n : ℕ) → n < 16 → (eip + n) / 4096 ≡ r .kept .page
       same-page n h = let z : (eip + n) / 4096 ≡ eip / 4096 = omega arith in z ∙ page
 
-  module _ (p : Fast) (q : Sought) (fast : FastOk m e (r .status) eip start p) (taken : p .taken ≡ true) (found : Reaches m c p q) (few : q .value < 4294967296)
+  module _ (p : Fast) (q : Sought) (fast : FastOk m e (statusIn (r .flags)) eip start p) (taken : p .taken ≡ true) (found : Reaches m c p q) (few : q .value < 4294967296)
       (good : sound m (current d e r) ≡ true) where
     abbrev int : Bool
     int = has 512 (d .eflags)
@@ -87,10 +122,10 @@ module _ (m : Mem) (size : length m % 4096 ≡ 0) (e : List ℕ) (r : Rest) (d :
     dir = has 1024 (d .eflags)
 
     abbrev k : Core
-    k = coreFrom e eip (r .status) int dir
+    k = coreFrom e eip (statusIn (r .flags)) int dir
 
     fits : Fits (view m c) k p
-    fits = fast taken int dir (view m c) shown
+    fits = fast .fits taken int dir (view m c) shown
 
     length-within : (0 < fits .instr .length) × (fits .instr .length ≤ 15)
     length-within = fetched-within eip (fits .instr .length) (view m c) (fits .instr) (fits .decodes)
@@ -113,14 +148,14 @@ module _ (m : Mem) (size : length m % 4096 ≡ 0) (e : List ℕ) (r : Rest) (d :
       second = found .two;
     }
 
-    stored : {m′ : Mem} {o : Out} → o ≡ resultOf p (q .value) (r .status) → m′ ≡ saved p (q .at) (o .value) m → m′ ≡ left planned m
+    stored : {m′ : Mem} {o : Out} → o ≡ resultOf p (q .value) (statusIn (r .flags)) → m′ ≡ saved p (q .at) (o .value) m → m′ ≡ left planned m
     unfolding left
     stored eo em =
         em ∙ saved-same p (q .at) _ _ m (λ h. ap (λ (x : Out). x .value) eo ∙ sym (fits .value (q .value) few h))
         ∙ sym (found .left (planned .value)) ∙ ap (λ (x : Mem). patches (puts (found .two) (planned .value)) (patches (puts (found .one) (planned .value)) x)) (sym (found .quiet))
 
-    advanced : {e′ : List ℕ} {o : Out} (r′ : Rest) → o ≡ resultOf p (q .value) (r .status) → e′ ≡ registersAfter p (file e) (o .value) .e → r′ .eip ≡ nextOf p (q .value)
-        → r′ .status ≡ o .status → current d e′ r′ ≡ withCore (current d e r) (planned .core)
+    advanced : {e′ : List ℕ} {o : Out} (r′ : Rest) → o ≡ resultOf p (q .value) (statusIn (r .flags)) → e′ ≡ registersAfter p (file e) (o .value) .e → r′ .eip ≡ nextOf p (q .value)
+        → statusIn (r′ .flags) ≡ o .status → current d e′ r′ ≡ withCore (current d e r) (planned .core)
     unfolding coreAfter
     advanced {o = o} r′ eo ee ei es =
         let er = ee ∙ ap (λ (x : Out). registersAfter p (file e) (x .value) .e) eo in
@@ -128,8 +163,8 @@ module _ (m : Mem) (size : length m % 4096 ≡ 0) (e : List ℕ) (r : Rest) (d :
         (λ j. withCore d (record { regs = record { e = er j }; eip = ei j; flags = record { status = et j; interrupt = int; direction = dir } }))
         ∙ sym (ap (withCore d) (fits .core (q .value) few)) ∙ sym (core-again d k (planned .core))
 
-    quick-step : {m′ : Mem} {e′ : List ℕ} {o : Out} (r′ : Rest) → o ≡ resultOf p (q .value) (r .status) → m′ ≡ saved p (q .at) (o .value) m
-        → e′ ≡ registersAfter p (file e) (o .value) .e → r′ .eip ≡ nextOf p (q .value) → r′ .status ≡ o .status
+    quick-step : {m′ : Mem} {e′ : List ℕ} {o : Out} (r′ : Rest) → o ≡ resultOf p (q .value) (statusIn (r .flags)) → m′ ≡ saved p (q .at) (o .value) m
+        → e′ ≡ registersAfter p (file e) (o .value) .e → r′ .eip ≡ nextOf p (q .value) → statusIn (r′ .flags) ≡ o .status
         → record { reply = Done; cpu = current d e′ r′; mem = m′ } ≡ step micro32 m (current d e r)
     quick-step r′ eo em ee ei es =
         let n = length-within in
@@ -147,9 +182,9 @@ module _ (m : Mem) (e : List ℕ) (c : Control) (r : Rest) (kept : KeptOk m c (r
   unmoved = record { did = λ h. absurd (false≢true h); not = λ _. (refl, (refl, (refl, refl))); kept = kept }
 
   pub hopped : (size : length m % 4096 ≡ 0) (small : r .eip < 4294967296) (page : r .eip / 4096 ≡ r .kept .page) (room : r .eip % 4096 ≤ 4080) (i : ℕ) (p : Fast) (q : Sought)
-      → i ≡ r .kept .base + r .eip % 4096 → FastOk m e (r .status) (r .eip) i p → p .taken ≡ true → Reaches m c p q → q .value < 4294967296
-      → {m′ : Mem} {e′ : List ℕ} {o : Out} (r′ : Rest) → o ≡ resultOf p (q .value) (r .status) → m′ ≡ saved p (q .at) (o .value) m
-      → e′ ≡ registersAfter p (file e) (o .value) .e → r′ .eip ≡ nextOf p (q .value) → r′ .status ≡ o .status → KeptOk m′ c (r′ .kept)
+      → i ≡ r .kept .base + r .eip % 4096 → FastOk m e (statusIn (r .flags)) (r .eip) i p → p .taken ≡ true → Reaches m c p q → q .value < 4294967296
+      → {m′ : Mem} {e′ : List ℕ} {o : Out} (r′ : Rest) → o ≡ resultOf p (q .value) (statusIn (r .flags)) → m′ ≡ saved p (q .at) (o .value) m
+      → e′ ≡ registersAfter p (file e) (o .value) .e → r′ .eip ≡ nextOf p (q .value) → statusIn (r′ .flags) ≡ o .status → KeptOk m′ c (r′ .kept)
       → SwiftOk m e c r m′ e′ (record { done = true; rest = r′ })
   hopped size small page room i p q ei′ fast taken found few r′ eo em ee ei es kept′ = record {
     did = λ _ d hc good.
@@ -157,6 +192,24 @@ module _ (m : Mem) (e : List ℕ) (c : Control) (r : Rest) (kept : KeptOk m c (r
     not = λ h. absurd (false≢true (sym h));
     kept = kept′;
   }
+
+  module _ (size : length m % 4096 ≡ 0) (small : r .eip < 4294967296) (page : r .eip / 4096 ≡ r .kept .page) (room : r .eip % 4096 ≤ 4080) (i : ℕ) (p : Fast)
+      (start : i ≡ r .kept .base + r .eip % 4096) (fast : FastOk m e (statusIn (r .flags)) (r .eip) i p) (taken : p .taken ≡ true) where
+    -- nothing is stored, and the stack stays
+    pub few-hopped : (q : Sought) → Reaches m c p q → q .value < 4294967296 → p .access < 3
+        → {e′ : List ℕ} {o : Out} (r′ : Rest) → o ≡ resultOf p (q .value) (statusIn (r .flags)) → e′ ≡ depositOf p (file e) (o .value) .e
+        → r′ .eip ≡ p .next → statusIn (r′ .flags) ≡ o .status → KeptOk m c (r′ .kept) → SwiftOk m e c r m e′ (record { done = true; rest = r′ })
+    few-hopped q found few h {o = o} r′ eo ee ei es kept′ =
+        hopped size small page room i p q start fast taken found few r′ eo (sym (few-saved p h (q .at) (o .value) m))
+        (ee ∙ ap (λ (x : Registers). depositOf p x (o .value) .e) (sym (few-stacked p h (file e)))) (ei ∙ sym (few-next p h (q .value))) es kept′
+
+    abbrev none : Sought
+    none = record { found = true; at = 0; value = 0 }
+
+    pub jumped : p .jumps ≡ true → (r′ : Rest) → r′ .eip ≡ p .next → r′ .flags ≡ r .flags → KeptOk m c (r′ .kept) → SwiftOk m e c r m e (record { done = true; rest = r′ })
+    jumped jumps r′ ei ef kept′ =
+        let idle = fast .idle jumps in
+        few-hopped none (none-reached m c p none (idle .0) refl) (omega arith) (omega (arith, idle .0)) r′ (sym (idle-result p idle 0 (statusIn (r .flags)))) (sym (idle-deposit p idle (file e) _)) ei (ap statusIn ef) kept′
 
   -- the instruction's bytes are there
   pub room-for : (i : ℕ) → r .eip < 4294967296 → r .eip / 4096 ≡ r .kept .page → r .eip % 4096 ≤ 4080 → i ≡ r .kept .base + r .eip % 4096 → i + 16 ≤ length m

@@ -4,7 +4,7 @@ use Prim.Native.Nat.{ℕ, _+_, _-_, _/_, _%_, _≤_}
 use mathlib.Core.Path.{_≡_}
 use mathlib.Core.Bool.{Bool, true, false, cond}
 use mathlib.Core.List.{List}
-use Rattle.alu.specs.declared.Status.{Status}
+use Rattle.alu.specs.Brief.{statusIn}
 use Rattle.machine.specs.declared.Control.{Control}
 use Rattle.machine.specs.declared.Cpu.{Cpu}
 use Rattle.machine.specs.declared.Reply.the-variants.{Done}
@@ -46,14 +46,14 @@ pub record Reaches (m : Mem) (c : Control) (p : Fast) (q : Sought) : Type 0 wher
 -- ---- the record, while its parts are kept apart: what a quick step can't change is in d
 
 abbrev pub current : Cpu → List ℕ → Rest → Cpu
-current d e r = withCore d (coreFrom e (r .eip) (r .status) (has 512 (d .eflags)) (has 1024 (d .eflags)))
+current d e r = withCore d (coreFrom e (r .eip) (statusIn (r .flags)) (has 512 (d .eflags)) (has 1024 (d .eflags)))
 
 -- ---- one step: it is the definition's, or nothing is changed
 
 pub record SwiftOk (m : Mem) (e : List ℕ) (c : Control) (r : Rest) (m′ : Mem) (e′ : List ℕ) (w : Swift) : Type 0 where
   pub did : w .done ≡ true → (d : Cpu) → d .control ≡ c → sound m (current d e r) ≡ true
       → record { reply = Done; cpu = current d e′ (w .rest); mem = m′ } ≡ step micro32 m (current d e r)
-  pub not : w .done ≡ false → (m′ ≡ m) × ((e′ ≡ e) × ((w .rest .eip ≡ r .eip) × (w .rest .status ≡ r .status)))
+  pub not : w .done ≡ false → (m′ ≡ m) × ((e′ ≡ e) × ((w .rest .eip ≡ r .eip) × (w .rest .flags ≡ r .flags)))
   pub kept : KeptOk m′ c (w .rest .kept)
 
 -- ---- n quick steps are n steps of the definition

@@ -15,6 +15,9 @@ read-requires c κs = search needs
 read-requires-2 : tie.Need-read-requires-2
 read-requires-2 c κs = search needs
 
+taking-requires : tie.Need-taking-requires
+taking-requires c κs = search needs
+
 wrapping-add-u32-requires : tie.Need-wrapping-add-u32-requires
 wrapping-add-u32-requires c κs = search needs
 
@@ -30,5 +33,6 @@ from-operand-spec =
     either-requires
     read-requires
     read-requires-2
+    taking-requires
     wrapping-add-u32-requires
     returns)

@@ -1,3 +1,4 @@
+use Rattle.alu.specs.Brief.{statusIn}
 use Rattle.shortcut.proofs.Taken.{not-taken, taken-to, taken-from, taken-address}
 use borrow.Author.Needs.{needs}
 use Rattle.shortcut.proofs.quick.Statement.{statement}
@@ -22,7 +23,7 @@ to-operand-requires : tie.Need-to-operand-requires
 to-operand-requires c κs = search needs
 
 returns : tie.Need-returns
-returns c = taken-to (c .before .before .before .before .before .before .before .before .args .mem .now) (c .before .before .before .before .before .before .before .before .args .e .now) (c .before .before .before .before .before .before .before .before .args .s) (c .before .before .before .before .before .before .before .before .args .eip) (c .before .before .before .before .before .before .before .before .args .i) _ _ _ (c .before .before .before .before .before .byte .ensures .0) (c .before .before .before .before .byte2 .ensures .0) (c .before .before .before .class-in .ensures) _ (c .before .before .if1 .taken) _ (c .before .operation .ensures) (c .to-operand .ensures)
+returns c = taken-to (c .before .before .before .before .before .before .before .before .args .mem .now) (c .before .before .before .before .before .before .before .before .args .e .now) (statusIn (c .before .before .before .before .before .before .before .before .args .s)) (c .before .before .before .before .before .before .before .before .args .eip) (c .before .before .before .before .before .before .before .before .args .i) _ _ _ (c .before .before .before .before .before .byte .ensures .0) (c .before .before .before .before .byte2 .ensures .0) (c .before .before .before .class-in .ensures) _ (c .before .before .if1 .taken) _ (c .before .operation .ensures) (c .to-operand .ensures)
 
 operation-requires-2 : tie.Need-operation-requires-2
 operation-requires-2 c κs = search needs
@@ -31,19 +32,19 @@ from-operand-requires : tie.Need-from-operand-requires
 from-operand-requires c κs = search needs
 
 returns-2 : tie.Need-returns-2
-returns-2 c = taken-from (c .before .before .before .before .before .before .before .before .before .args .mem .now) (c .before .before .before .before .before .before .before .before .before .args .e .now) (c .before .before .before .before .before .before .before .before .before .args .s) (c .before .before .before .before .before .before .before .before .before .args .eip) (c .before .before .before .before .before .before .before .before .before .args .i) _ _ _ (c .before .before .before .before .before .before .byte .ensures .0) (c .before .before .before .before .before .byte2 .ensures .0) (c .before .before .before .before .class-in .ensures) _ (c .before .before .if2 .taken) _ (c .before .operation2 .ensures) (c .from-operand .ensures)
+returns-2 c = taken-from (c .before .before .before .before .before .before .before .before .before .args .mem .now) (c .before .before .before .before .before .before .before .before .before .args .e .now) (statusIn (c .before .before .before .before .before .before .before .before .before .args .s)) (c .before .before .before .before .before .before .before .before .before .args .eip) (c .before .before .before .before .before .before .before .before .before .args .i) _ _ _ (c .before .before .before .before .before .before .byte .ensures .0) (c .before .before .before .before .before .byte2 .ensures .0) (c .before .before .before .before .class-in .ensures) _ (c .before .before .if2 .taken) _ (c .before .operation2 .ensures) (c .from-operand .ensures)
 
 none-requires : tie.Need-none-requires
 none-requires c κs = search needs
 
 returns-3 : tie.Need-returns-3
-returns-3 c = not-taken (c .before .before .before .before .before .before .before .before .before .before .args .mem .now) (c .before .before .before .before .before .before .before .before .before .before .args .e .now) (c .before .before .before .before .before .before .before .before .before .before .args .s) (c .before .before .before .before .before .before .before .before .before .before .args .eip) (c .before .before .before .before .before .before .before .before .before .before .args .i) _ (c .none .ensures)
+returns-3 c = not-taken (c .before .before .before .before .before .before .before .before .before .before .args .mem .now) (c .before .before .before .before .before .before .before .before .before .before .args .e .now) (statusIn (c .before .before .before .before .before .before .before .before .before .before .args .s)) (c .before .before .before .before .before .before .before .before .before .before .args .eip) (c .before .before .before .before .before .before .before .before .before .before .args .i) _ (c .none .ensures)
 
 address-of-requires : tie.Need-address-of-requires
 address-of-requires c κs = search needs
 
 returns-4 : tie.Need-returns-4
-returns-4 c = taken-address (c .before .before .before .before .before .before .before .before .before .before .args .mem .now) (c .before .before .before .before .before .before .before .before .before .before .args .e .now) (c .before .before .before .before .before .before .before .before .before .before .args .s) (c .before .before .before .before .before .before .before .before .before .before .args .eip) (c .before .before .before .before .before .before .before .before .before .before .args .i) _ _ _ (c .before .before .before .before .before .before .before .byte .ensures .0) (c .before .before .before .before .before .before .byte2 .ensures .0) (c .before .before .before .before .before .class-in .ensures) _ (c .before .before .if3 .taken) (c .before .if4 .left) (c .address-of .ensures)
+returns-4 c = taken-address (c .before .before .before .before .before .before .before .before .before .before .args .mem .now) (c .before .before .before .before .before .before .before .before .before .before .args .e .now) (statusIn (c .before .before .before .before .before .before .before .before .before .before .args .s)) (c .before .before .before .before .before .before .before .before .before .before .args .eip) (c .before .before .before .before .before .before .before .before .before .before .args .i) _ _ _ (c .before .before .before .before .before .before .before .byte .ensures .0) (c .before .before .before .before .before .before .byte2 .ensures .0) (c .before .before .before .before .before .class-in .ensures) _ (c .before .before .if3 .taken) (c .before .if4 .left) (c .address-of .ensures)
 
 plain-requires : tie.Need-plain-requires
 plain-requires c κs = search needs

@@ -1,34 +1,29 @@
-use Rattle.paging.proofs.Settling.{no-page-ok}
-use Rattle.swift.proofs.Dashing.{dashed}
+use Rattle.swift.proofs.Dashing.{not-dashed}
 use borrow.Author.Needs.{needs}
+use borrow.Author.Tests.{not-false}
+use mathlib.Core.Path.{sym, ap, _∙_}
 use Rattle.swift.proofs.dash.Statement.{statement}
 use Rattle.swift.proofs.dash.Tie as tie
 
-rest-of-requires : tie.Need-rest-of-requires
-rest-of-requires c κs = search needs
+unpack-requires : tie.Need-unpack-requires
+unpack-requires c κs = search needs
 
-slice-aggregate-rush : tie.Need-slice-aggregate-rush
-slice-aggregate-rush c = search needs
+is-tellable-requires : tie.Need-is-tellable-requires
+is-tellable-requires c κs = search needs
 
-rush-requires : tie.Need-rush-requires
-rush-requires c κs = ((c .before .before .before .before .before .before .before .pre .0), ((c .before .before .before .before .before .before .before .pre .1), no-page-ok _ _ _ (c .before .before .rest-of .ensures .1 .1)))
+returns : tie.Need-returns
+returns c = (search needs, not-dashed _ _)
 
-joined-requires : tie.Need-joined-requires
-joined-requires c κs = search needs
+dash-on-requires : tie.Need-dash-on-requires
+dash-on-requires c κs = (((c .before .before .before .before .before .before .pre .0)), (((c .before .before .before .before .before .before .pre .1)), (sym ((c .before .before .is-tellable .ensures)) ∙ not-false _ ((c .before .if1 .left)), ap (λ f. f .status) ((c .before .before .before .before .unpack .ensures)))))
 
 same-length : tie.Need-same-length
 same-length c = search needs
 
-returns : tie.Need-returns
-returns c = ((c .before .before .before .before .before .rush .ensures .0), dashed _ (c .before .before .before .before .before .before .before .before .before .before .before .before .before .args .c) (c .before .before .before .before .before .before .before .before .rest-of .result) (c .before .before .before .before .before .before .before .before .rest-of .ensures .0) (c .before .before .before .before .before .before .before .before .rest-of .ensures .1 .0) _ _ _ _ (c .before .before .before .before .before .rush .ensures .1) (c .joined .ensures))
+returns-2 : tie.Need-returns-2
+returns-2 c = search needs
 
 pub dash-spec : {M : Type 1} → statement M
 dash-spec =
     tie.close
-    (tie.spec
-    rest-of-requires
-    slice-aggregate-rush
-    rush-requires
-    joined-requires
-    same-length
-    returns)
+    (tie.spec unpack-requires is-tellable-requires returns dash-on-requires same-length returns-2)

@@ -19,9 +19,6 @@ returns c = cc
 bytes-requires : tie.Need-bytes-requires
 bytes-requires c κs = search needs
 
-apart-requires : tie.Need-apart-requires
-apart-requires c κs = search needs
-
 returns-2 : tie.Need-returns-2
 unfolding resultOf
 returns-2 c = cc
@@ -29,11 +26,4 @@ returns-2 c = cc
 pub result-spec : {M : Type 1} → statement M
 result-spec =
     tie.close
-    (tie.spec
-    either-requires
-    either-requires-2
-    dwords-requires
-    returns
-    bytes-requires
-    apart-requires
-    returns-2)
+    (tie.spec either-requires either-requires-2 dwords-requires returns bytes-requires returns-2)
