@@ -74,6 +74,18 @@ pub fn brief_of(s: Status) -> Brief
     }
 }
 
+// What an operation takes over from the flags before it, where it sets ZF, SF and PF anew.
+pub fn kept(s: Status) -> Brief
+    ensures { λ r. ⌜ (r .cf ≡ s .cf) × ((r .af ≡ s .af) × (r .of ≡ s .of)) ⌝ }
+{
+    Brief {
+        cf: s.cf,
+        af: s.af,
+        of: s.of,
+        seen: 0,
+    }
+}
+
 pub fn add32(a: u32, b: u32, c: bool) -> Short
     ensures { λ r. ⌜ outIn r ≡ sum 32 a b (bit c) ⌝ }
 {

@@ -6,7 +6,6 @@ ghost use mathlib.Core.Bool.{Bool, true, false};
 ghost use Prim.Native.Nat.{_+_, _-_, _*_, _/_, _%_, _^_, _<_, _≤_};
 ghost use lib.Bits.{bitAnd, bitOr, bitXor};
 ghost use Rattle.alu.specs.Arithmetic.{bit, parity, sum, difference, logic, operation, operate, writes, keepCarry, single, operateOne, signedByte};
-use brief::Brief;
 
 // The six flags that arithmetic sets.
 pub struct Status {
@@ -47,22 +46,10 @@ pub fn sub32(a: u32, b: u32, c: bool) -> Out
     brief::out_in(brief::sub32(a, b, c))
 }
 
-// What an operation takes over from the flags before it.
-fn kept(s: Status) -> Brief
-    ensures { λ r. ⌜ (r .cf ≡ s .cf) × ((r .af ≡ s .af) × (r .of ≡ s .of)) ⌝ }
-{
-    Brief {
-        cf: s.cf,
-        af: s.af,
-        of: s.of,
-        seen: 0,
-    }
-}
-
 pub fn logic32(r: u32, s: Status) -> Out
     ensures { λ x. ⌜ x ≡ logic 32 s r ⌝ }
 {
-    brief::out_in(brief::logic32(r, kept(s)))
+    brief::out_in(brief::logic32(r, brief::kept(s)))
 }
 
 pub fn add8(a: u8, b: u8, c: bool) -> Out
@@ -80,7 +67,7 @@ pub fn sub8(a: u8, b: u8, c: bool) -> Out
 pub fn logic8(r: u8, s: Status) -> Out
     ensures { λ x. ⌜ x ≡ logic 8 s r ⌝ }
 {
-    brief::out_in(brief::logic8(r, kept(s)))
+    brief::out_in(brief::logic8(r, brief::kept(s)))
 }
 
 fn operate32(op: u32, a: u32, b: u32, s: Status) -> Out
