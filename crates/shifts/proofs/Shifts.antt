@@ -1,21 +1,22 @@
 -- Shifts one place at a time, in closed form, over the count and the width, or the weight H of the top bit. Assumes nothing.
 use Prim.Native.Nat.{ℕ, zero, suc, _+_, _-_, _*_, _/_, _%_, _^_, _≤_, _<_}
-use native.Mathlib.Nat.{mod-eq-of-lt, add-mod, mul-assoc, not-suc-le-zero}
+use native.Mathlib.Nat.{mod-eq-of-lt, add-mod, mul-assoc}
 use native.Mathlib.Numerals.{add-one}
 use native.Mathlib.Omega.{arith}
 use mathlib.Core.Path.{_≡_, refl, sym, ap, _∙_}
 use mathlib.Core.Bool.{Bool, true, false, cond}
 use lib.Dec.{leb, eqb}
 use lib.Pow.{pow-add, shr-shr, shr-le, mod-mod-pow}
-use borrow.Author.Tests.{le-leb, lt-leb, ne-eqb}
+use lib.Bits.{bitAnd, bitXor, and-mask, xor-add-and, xor-zero-r, xor-lt}
+use borrow.Author.Tests.{le-leb, lt-leb, leb-true, leb-false, ne-eqb}
 use Rattle.alu.specs.declared.Status.{Status}
 use Rattle.alu.specs.declared.Out.{Out}
+use Rattle.alu.specs.declared.brief.Brief.{Brief}
+use Rattle.alu.specs.declared.brief.Short.{Short}
+use Rattle.alu.specs.Arithmetic.{signedByte}
+use Rattle.alu.specs.Brief.{statusIn, outIn}
+use Rattle.alu.proofs.Showing.{byte-out}
 use Rattle.shifts.specs.Shifts.{times, left, right, shiftStatus, shifted}
-
-pub last : (f : ℕ → ℕ) (n v : ℕ) → zero < n → times f n v ≡ f (times f (n - 1) v)
-unfolding times
-last f zero v h = absurd (not-suc-le-zero h)
-last f (suc n) v h = let e : n ≡ suc n - 1 = omega arith in ap (λ (k : ℕ). f (times f k v)) e
 
 pow-suc : (v m : ℕ) → v * 2 ^ suc m ≡ v * 2 ^ m + v * 2 ^ m
 pow-suc v m =
@@ -57,16 +58,45 @@ sar-high H (suc m) a h k =
     let l = shr-le (H + H - 1 - a) m in
     rw (← sar-high H m a h k) (simp (le-leb H (H + H - 1 - q) (omega arith)) (omega (arith, div-suc (H + H - 1 - a) m)))
 
-pub sar-low-last : (H n a : ℕ) → a < H → zero < n → times (sarH H) n a ≡ a / 2 ^ (n - 1) / 2
-sar-low-last H n a h k =
-    last (sarH H) n a k
-    ∙ rw (← sar-low H (n - 1) a h) (simp (lt-leb H (a / 2 ^ (n - 1)) (omega (arith, shr-le a (n - 1)))))
+-- a number with its bits turned over
+flipped : (k a : ℕ) → a < 2 ^ k → bitXor a (2 ^ k - 1) ≡ 2 ^ k - 1 - a
+flipped k a h =
+    let e : bitAnd a (2 ^ k - 1) ≡ a = and-mask a k ∙ mod-eq-of-lt h in
+    omega (arith, xor-add-and a (2 ^ k - 1), e)
 
-pub sar-high-last : (H n a : ℕ) → H ≤ a → a < H + H → zero < n → times (sarH H) n a ≡ (H + H - 1 - (H + H - 1 - a) / 2 ^ (n - 1)) / 2 + H
-sar-high-last H n a h l k =
-    last (sarH H) n a k
-    ∙ rw (← sar-high H (n - 1) a h l)
-    (simp (le-leb H (H + H - 1 - (H + H - 1 - a) / 2 ^ (n - 1)) (omega (arith, shr-le (H + H - 1 - a) (n - 1)))))
+-- t turns over the bits of a negative number
+pub sar-times : (k H m a t : ℕ) → 2 ^ k ≡ H + H → a < 2 ^ k → t ≡ cond (leb H a) (2 ^ k - 1) 0 → bitXor (bitXor a t / 2 ^ m) t ≡ times (sarH H) m a
+sar-times k H m a t w h e = by (leb H a) refl e
+  where
+    by : (b : Bool) → leb H a ≡ b → t ≡ cond b (2 ^ k - 1) 0 → bitXor (bitXor a t / 2 ^ m) t ≡ times (sarH H) m a
+    by true p q =
+        let l = shr-le (2 ^ k - 1 - a) m in
+        rw (q, flipped k a h, flipped k ((2 ^ k - 1 - a) / 2 ^ m) (omega arith), w) (sar-high H m a (leb-true _ _ p) (omega arith))
+    by false p q = rw (q, xor-zero-r a, xor-zero-r (a / 2 ^ m)) (sar-low H m a (leb-false _ _ p))
+
+pub sar-lt : (k m a t : ℕ) → a < 2 ^ k → t < 2 ^ k → bitXor (bitXor a t / 2 ^ m) t < 2 ^ k
+sar-lt k m a t h g = xor-lt k (bitXor a t / 2 ^ m) t (omega (arith, shr-le (bitXor a t) m, xor-lt k a t h g)) g
+
+some-place : (n : ℕ) → 0 < n → eqb n 0 ≡ false
+some-place n h = ne-eqb n 0 (λ e. omega arith)
+
+-- the answer r of some places, in brief
+module _ (n : ℕ) (f : Brief) (r : ℕ) (last one : Bool) (h : 0 < n) where
+  abbrev short : ℕ → Short
+  short seen = record { value = r; flags = record { cf = last; af = f .af; of = cond (eqb n 1) one (f .of); seen = seen } }
+
+  pub dword-after : outIn (short r) ≡ record { value = r; status = shiftStatus 32 n (statusIn f) r last one }
+  unfolding shiftStatus
+  dword-after = simp (some-place n h)
+
+  pub byte-after : (x : ℕ) → r < 256 → x ≡ signedByte r → outIn (short x) ≡ record { value = r; status = shiftStatus 8 n (statusIn f) r last one }
+  unfolding shiftStatus
+  byte-after x k e = byte-out _ _ _ r x k e ∙ simp (some-place n h)
+
+-- some places ask only for AF and OF of the status before
+pub depends : (op w n v : ℕ) (s t : Status) → 0 < n → s .af ≡ t .af → s .of ≡ t .of → shifted op w n v s ≡ shifted op w n v t
+unfolding shifted shiftStatus
+depends op w n v s t h a o = rw (some-place n h, a, o)
 
 -- count 0 changes nothing
 abbrev kept : ℕ → Status → Out
@@ -80,6 +110,3 @@ alike false false x = refl
 pub no-place : (op w v : ℕ) (s : Status) → shifted op w 0 v s ≡ kept v s
 unfolding shifted times shiftStatus
 no-place op w v s = alike (eqb op 4) (eqb op 5) (kept v s)
-
-pub some-place : (n : ℕ) → 0 < n → eqb n 0 ≡ false
-some-place n h = ne-eqb n 0 (λ e. omega arith)

@@ -1,25 +1,21 @@
-use Rattle.shifts.proofs.Shifts.{sar-low, sar-high, sar-low-last, sar-high-last}
-use lib.Pow.{shr-le}
+use Rattle.shifts.proofs.Shifts.{sar-times, dword-after}
 use Prim.Native.Nat.{_-_}
 use mathlib.Core.Path.{refl}
 use borrow.Author.Needs.{needs}
-use native.Mathlib.Omega.{arith}
 use Rattle.shifts.proofs.sar32.Statement.{statement}
 use Rattle.shifts.proofs.sar32.Tie as tie
 
 returns : tie.Need-returns
 returns c =
     let x = c .before .before .args in
-    rw (sar-low-last 2147483648 (x .n) (x .v) (search needs) (search needs), ← sar-low 2147483648 (x .n - 1) (x .v) (search needs)) (c .after .ensures 32 refl)
-
-sub-p-4 : tie.Need-sub-p-4
-sub-p-4 c = let x = c .before .args in omega (arith, shr-le (4294967295 - x .v) (x .n - 1))
-
-returns-2 : tie.Need-returns-2
-returns-2 c =
-    let x = c .before .before .args in
-    rw (sar-high-last 2147483648 (x .n) (x .v) (search needs) (search needs) (search needs), ← sar-high 2147483648 (x .n - 1) (x .v) (search needs) (search needs))
-    (c .after2 .ensures 32 refl)
+    let t = c .before .flip .result in
+    let e = c .before .flip .ensures .0 in
+    rw (
+      c .after .ensures,
+      ← sar-times 32 2147483648 (x .n) (x .v) t refl (search needs) e,
+      ← sar-times 32 2147483648 (x .n - 1) (x .v) t refl (search needs) e,
+    )
+    (dword-after (x .n) (x .f) _ _ _ (search needs))
 
 pub sar32-spec : {M : Type 1} → statement M
-sar32-spec = tie.close (tie.spec (λ c. search needs) (λ c. search needs) (λ c κs. search needs) returns (λ c. search needs) (λ c. search needs) (λ c. search needs) sub-p-4 (λ c. search needs) (λ c κs. search needs) returns-2)
+sar32-spec = tie.close (tie.spec (λ c κs. search needs) (λ c. search needs) (λ c. search needs) (λ c. search needs) (λ c κs. search needs) returns)

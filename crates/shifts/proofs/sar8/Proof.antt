@@ -1,5 +1,4 @@
-use Rattle.shifts.proofs.Shifts.{sar-low, sar-high, sar-low-last, sar-high-last}
-use lib.Pow.{shr-le}
+use Rattle.shifts.proofs.Shifts.{sar-times, sar-lt, byte-after}
 use Prim.Native.Nat.{_-_}
 use mathlib.Core.Path.{refl}
 use borrow.Author.Needs.{needs}
@@ -7,19 +6,21 @@ use native.Mathlib.Omega.{arith}
 use Rattle.shifts.proofs.sar8.Statement.{statement}
 use Rattle.shifts.proofs.sar8.Tie as tie
 
+signed-byte-requires : tie.Need-signed-byte-requires
+signed-byte-requires c κs = let x = c .before .args in sar-lt 8 (x .n) (x .v) (c .flip .result) (search needs) (omega arith)
+
 returns : tie.Need-returns
 returns c =
-    let x = c .before .before .args in
-    rw (sar-low-last 128 (x .n) (x .v) (search needs) (search needs), ← sar-low 128 (x .n - 1) (x .v) (search needs)) (c .after .ensures 8 refl)
-
-sub-p-4 : tie.Need-sub-p-4
-sub-p-4 c = let x = c .before .args in omega (arith, shr-le (255 - x .v) (x .n - 1))
-
-returns-2 : tie.Need-returns-2
-returns-2 c =
-    let x = c .before .before .args in
-    rw (sar-high-last 128 (x .n) (x .v) (search needs) (search needs) (search needs), ← sar-high 128 (x .n - 1) (x .v) (search needs) (search needs))
-    (c .after2 .ensures 8 refl)
+    let x = c .before .before .before .args in
+    let t = c .before .before .flip .result in
+    let e = c .before .before .flip .ensures .0 in
+    let l = sar-lt 8 (x .n) (x .v) t (search needs) (omega arith) in
+    rw (
+      c .after .ensures,
+      ← sar-times 8 128 (x .n) (x .v) t refl (search needs) e,
+      ← sar-times 8 128 (x .n - 1) (x .v) t refl (search needs) e,
+    )
+    (byte-after (x .n) (x .f) _ _ _ (search needs) _ l (c .before .signed-byte .ensures))
 
 pub sar8-spec : {M : Type 1} → statement M
-sar8-spec = tie.close (tie.spec (λ c. search needs) (λ c. search needs) (λ c κs. search needs) returns (λ c. search needs) (λ c. search needs) (λ c. search needs) sub-p-4 (λ c. search needs) (λ c κs. search needs) returns-2)
+sar8-spec = tie.close (tie.spec (λ c κs. search needs) (λ c. search needs) (λ c. search needs) (λ c. search needs) signed-byte-requires (λ c κs. search needs) returns)

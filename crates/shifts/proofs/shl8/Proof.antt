@@ -1,15 +1,14 @@
-use Rattle.shifts.proofs.Shifts.{last, shl-wide}
-use Rattle.shifts.specs.Shifts.{left}
+use Rattle.shifts.proofs.Shifts.{shl-wide, byte-after}
 use Prim.Native.Nat.{_-_}
-use mathlib.Core.Path.{refl}
 use borrow.Author.Needs.{needs}
 use Rattle.shifts.proofs.shl8.Statement.{statement}
 use Rattle.shifts.proofs.shl8.Tie as tie
 
 returns : tie.Need-returns
 returns c =
-    let x = c .before .args in
-    rw (last (left 8) (x .n) (x .v) (search needs), ← shl-wide 56 8 (x .n - 1) (x .v) (search needs)) (c .after .ensures 8 refl)
+    let x = c .before .before .args in
+    rw (c .after .ensures, ← shl-wide 24 8 (x .n) (x .v) (search needs), ← shl-wide 24 8 (x .n - 1) (x .v) (search needs))
+    (byte-after (x .n) (x .f) _ _ _ (search needs) _ (search needs) (c .before .signed-byte .ensures))
 
 pub shl8-spec : {M : Type 1} → statement M
-shl8-spec = tie.close (tie.spec (λ c. search needs) (λ c. search needs) (λ c. search needs) (λ c. search needs) (λ c. search needs) (λ c κs. search needs) returns)
+shl8-spec = tie.close (tie.spec (λ c. search needs) (λ c. search needs) (λ c. search needs) (λ c κs. search needs) (λ c κs. search needs) returns)

@@ -1,7 +1,5 @@
-use Rattle.shifts.proofs.Shifts.{last, shr-times}
-use Rattle.shifts.specs.Shifts.{right}
+use Rattle.shifts.proofs.Shifts.{shr-times, dword-after}
 use Prim.Native.Nat.{_-_}
-use mathlib.Core.Path.{refl}
 use borrow.Author.Needs.{needs}
 use Rattle.shifts.proofs.shr32.Statement.{statement}
 use Rattle.shifts.proofs.shr32.Tie as tie
@@ -9,7 +7,7 @@ use Rattle.shifts.proofs.shr32.Tie as tie
 returns : tie.Need-returns
 returns c =
     let x = c .before .args in
-    rw (last right (x .n) (x .v) (search needs), ← shr-times (x .n - 1) (x .v)) (c .after .ensures 32 refl)
+    rw (c .after .ensures, ← shr-times (x .n) (x .v), ← shr-times (x .n - 1) (x .v)) (dword-after (x .n) (x .f) _ _ _ (search needs))
 
 pub shr32-spec : {M : Type 1} → statement M
-shr32-spec = tie.close (tie.spec (λ c. search needs) (λ c. search needs) (λ c κs. search needs) returns)
+shr32-spec = tie.close (tie.spec (λ c. search needs) (λ c. search needs) (λ c. search needs) (λ c κs. search needs) returns)

@@ -1,15 +1,19 @@
-use Rattle.shifts.proofs.Shifts.{last, shr-times}
-use Rattle.shifts.specs.Shifts.{right}
+use Rattle.shifts.proofs.Shifts.{shr-times, byte-after}
+use lib.Pow.{shr-le}
 use Prim.Native.Nat.{_-_}
-use mathlib.Core.Path.{refl}
 use borrow.Author.Needs.{needs}
+use native.Mathlib.Omega.{arith}
 use Rattle.shifts.proofs.shr8.Statement.{statement}
 use Rattle.shifts.proofs.shr8.Tie as tie
 
+signed-byte-requires : tie.Need-signed-byte-requires
+signed-byte-requires c κs = let x = c .args in omega (arith, shr-le (x .v) (x .n))
+
 returns : tie.Need-returns
 returns c =
-    let x = c .before .args in
-    rw (last right (x .n) (x .v) (search needs), ← shr-times (x .n - 1) (x .v)) (c .after .ensures 8 refl)
+    let x = c .before .before .args in
+    rw (c .after .ensures, ← shr-times (x .n) (x .v), ← shr-times (x .n - 1) (x .v))
+    (byte-after (x .n) (x .f) _ _ _ (search needs) _ (omega (arith, shr-le (x .v) (x .n))) (c .before .signed-byte .ensures))
 
 pub shr8-spec : {M : Type 1} → statement M
-shr8-spec = tie.close (tie.spec (λ c. search needs) (λ c. search needs) (λ c κs. search needs) returns)
+shr8-spec = tie.close (tie.spec (λ c. search needs) (λ c. search needs) (λ c. search needs) signed-byte-requires (λ c κs. search needs) returns)
