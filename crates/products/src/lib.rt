@@ -1,17 +1,27 @@
 // MUL, IMUL, DIV and IDIV at 8 and 32 bits.
 ghost use mathlib.Core.Path.{_≡_};
 ghost use mathlib.Core.Logic.{_≢_};
-ghost use mathlib.Core.Bool.{true, cond};
+ghost use mathlib.Core.Bool.{true, false, cond};
 ghost use Prim.Native.Nat.{ℕ, _+_, _-_, _*_, _/_, _%_, _^_, _<_, _≤_};
 ghost use lib.Dec.{ltb, leb};
+ghost use Rattle.alu.specs.declared.Status.{Status};
+ghost use Rattle.alu.specs.Brief.{statusIn};
 ghost use Rattle.products.specs.Products.{carried, halves, unsignedProduct, signedProduct, product, unsignedQuotient, signedQuotient, quotient};
 use alu::Status;
+use alu::brief::Brief;
 
 // The two halves of a product.
 pub struct Product {
     pub low: u32,
     pub high: u32,
     pub status: Status,
+}
+
+// The same with the flags in brief.
+pub struct Halves {
+    pub low: u32,
+    pub high: u32,
+    pub flags: Brief,
 }
 
 pub enum Quotient {
@@ -48,6 +58,74 @@ fn in_range(top: u64, negative: bool, m: u64) -> bool
     if negative { m <= top } else { m < top }
 }
 
+// A product, and whether its upper half matters.
+struct Whole {
+    all: u64,
+    carry: bool,
+}
+
+fn mul32(a: u32, b: u32) -> Whole
+    ensures { λ r. ⌜ ((s : Status) → halves 32 (r .all) (carried s (r .carry)) ≡ unsignedProduct 32 a b s) ⌝ }
+{
+    let p = a as u64 * b as u64;
+    Whole {
+        all: p,
+        carry: 0x1_0000_0000 <= p,
+    }
+}
+
+fn imul32(a: u32, b: u32) -> Whole
+    ensures { λ r. ⌜ ((s : Status) → halves 32 (r .all) (carried s (r .carry)) ≡ signedProduct 32 a b s) ⌝ }
+{
+    let m = magnitude(0x8000_0000, a as u64) * magnitude(0x8000_0000, b as u64);
+    let negative = (0x8000_0000 <= a) != (0x8000_0000 <= b);
+    let kept = in_range(0x8000_0000, negative, m);
+    Whole {
+        all: number(0x8000_0000_0000_0000, negative, m),
+        carry: !kept,
+    }
+}
+
+fn product32(signed: bool, a: u32, b: u32) -> Whole
+    ensures { λ r. ⌜ ((s : Status) → halves 32 (r .all) (carried s (r .carry)) ≡ product signed true a b s) ⌝ }
+{
+    if signed {
+        return imul32(a, b);
+    }
+    mul32(a, b)
+}
+
+fn mul8(a: u8, b: u8) -> Whole
+    ensures { λ r. ⌜ (r .all < 0x1_0000) × ((s : Status) → halves 8 (r .all) (carried s (r .carry)) ≡ unsignedProduct 8 a b s) ⌝ }
+{
+    let p = a as u64 * b as u64;
+    Whole {
+        all: p,
+        carry: 256 <= p,
+    }
+}
+
+fn imul8(a: u8, b: u8) -> Whole
+    ensures { λ r. ⌜ (r .all < 0x1_0000) × ((s : Status) → halves 8 (r .all) (carried s (r .carry)) ≡ signedProduct 8 a b s) ⌝ }
+{
+    let m = magnitude(128, a as u64) * magnitude(128, b as u64);
+    let negative = (128 <= a) != (128 <= b);
+    let kept = in_range(128, negative, m);
+    Whole {
+        all: number(0x8000, negative, m),
+        carry: !kept,
+    }
+}
+
+fn product8(signed: bool, a: u32, b: u32) -> Whole
+    ensures { λ r. ⌜ (r .all < 0x1_0000) × ((s : Status) → halves 8 (r .all) (carried s (r .carry)) ≡ product signed false a b s) ⌝ }
+{
+    if signed {
+        return imul8((a % 256) as u8, (b % 256) as u8);
+    }
+    mul8((a % 256) as u8, (b % 256) as u8)
+}
+
 fn carried(s: Status, b: bool) -> Status
     ensures { λ r. ⌜ r ≡ carried s b ⌝ }
 {
@@ -57,75 +135,42 @@ fn carried(s: Status, b: bool) -> Status
     r
 }
 
-fn halves32(p: u64, s: Status) -> Product
-    ensures { λ r. ⌜ r ≡ halves 32 p s ⌝ }
-{
-    Product {
-        low: (p % 0x1_0000_0000) as u32,
-        high: (p / 0x1_0000_0000) as u32,
-        status: s,
-    }
-}
-
-fn mul32(a: u32, b: u32, s: Status) -> Product
-    ensures { λ r. ⌜ r ≡ unsignedProduct 32 a b s ⌝ }
-{
-    let p = a as u64 * b as u64;
-    halves32(p, carried(s, 0x1_0000_0000 <= p))
-}
-
-fn imul32(a: u32, b: u32, s: Status) -> Product
-    ensures { λ r. ⌜ r ≡ signedProduct 32 a b s ⌝ }
-{
-    let m = magnitude(0x8000_0000, a as u64) * magnitude(0x8000_0000, b as u64);
-    let negative = (0x8000_0000 <= a) != (0x8000_0000 <= b);
-    let kept = in_range(0x8000_0000, negative, m);
-    let p = number(0x8000_0000_0000_0000, negative, m);
-    halves32(p, carried(s, !kept))
-}
-
-fn halves8(p: u64, s: Status) -> Product
-    requires { ⌜ p < 0x1_0000 ⌝ }
-    ensures { λ r. ⌜ r ≡ halves 8 p s ⌝ }
-{
-    Product {
-        low: (p % 256) as u32,
-        high: (p / 256) as u32,
-        status: s,
-    }
-}
-
-fn mul8(a: u8, b: u8, s: Status) -> Product
-    ensures { λ r. ⌜ r ≡ unsignedProduct 8 a b s ⌝ }
-{
-    let p = a as u64 * b as u64;
-    halves8(p, carried(s, 256 <= p))
-}
-
-fn imul8(a: u8, b: u8, s: Status) -> Product
-    ensures { λ r. ⌜ r ≡ signedProduct 8 a b s ⌝ }
-{
-    let m = magnitude(128, a as u64) * magnitude(128, b as u64);
-    let negative = (128 <= a) != (128 <= b);
-    let kept = in_range(128, negative, m);
-    let p = number(0x8000, negative, m);
-    halves8(p, carried(s, !kept))
-}
-
 // The product of a and b, of bytes or dwords.
 pub fn multiply(signed: bool, wide: bool, a: u32, b: u32, s: Status) -> Product
     ensures { λ r. ⌜ r ≡ product signed wide a b s ⌝ }
 {
     if wide {
-        if signed {
-            return imul32(a, b, s);
-        }
-        return mul32(a, b, s);
+        let w = product32(signed, a, b);
+        return Product {
+            low: (w.all % 0x1_0000_0000) as u32,
+            high: (w.all / 0x1_0000_0000) as u32,
+            status: carried(s, w.carry),
+        };
     }
-    if signed {
-        return imul8((a % 256) as u8, (b % 256) as u8, s);
+    let w = product8(signed, a, b);
+    Product {
+        low: (w.all % 256) as u32,
+        high: (w.all / 256) as u32,
+        status: carried(s, w.carry),
     }
-    mul8((a % 256) as u8, (b % 256) as u8, s)
+}
+
+// The product of dwords, with the flags in brief.
+pub fn multiply32(signed: bool, a: u32, b: u32, f: Brief) -> Halves
+    ensures { λ r. ⌜ record { low = r .low; high = r .high; status = statusIn (r .flags) } ≡ product signed true a b (statusIn f) ⌝ }
+{
+    let w = product32(signed, a, b);
+    let flags = Brief {
+        cf: w.carry,
+        af: f.af,
+        of: w.carry,
+        seen: f.seen,
+    };
+    Halves {
+        low: (w.all % 0x1_0000_0000) as u32,
+        high: (w.all / 0x1_0000_0000) as u32,
+        flags,
+    }
 }
 
 // DIV, by the number of values that the quotient may have.

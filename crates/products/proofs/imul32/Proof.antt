@@ -11,7 +11,7 @@ number-requires : tie.Need-number-requires
 number-requires c κs = (search needs, (search needs, omega (arith, product-le 2147483648 2147483648 {a = c .before .before .magnitude .result} {b = c .before .magnitude2 .result} (search needs) (search needs))))
 
 returns : tie.Need-returns
-returns c = simp (c .halves32 .ensures, c .before .carried .ensures, c .before .before .number .ensures .0, c .before .before .before .in-range .ensures .0, c .before .before .before .before .magnitude2 .ensures .0, c .before .before .before .before .before .magnitude .ensures .0)
+returns c = λ s. simp (c .number .ensures .0, c .before .in-range .ensures .0, c .before .before .magnitude2 .ensures .0, c .before .before .before .magnitude .ensures .0)
 
 pub imul32-spec : {M : Type 1} → statement M
-imul32-spec = tie.close (tie.spec (λ c κs. search needs) (λ c κs. search needs) mul-m (λ c κs. search needs) number-requires (λ c κs. search needs) (λ c κs. search needs) returns)
+imul32-spec = tie.close (tie.spec (λ c κs. search needs) (λ c κs. search needs) mul-m (λ c κs. search needs) number-requires returns)

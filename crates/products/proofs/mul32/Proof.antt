@@ -1,4 +1,5 @@
 use Rattle.products.proofs.Bounds.{product-le}
+use mathlib.Core.Path.{refl}
 use borrow.Author.Needs.{needs}
 use native.Mathlib.Omega.{arith}
 use Rattle.products.proofs.mul32.Statement.{statement}
@@ -8,7 +9,7 @@ mul-p : tie.Need-mul-p
 mul-p c = let x = c .args in omega (arith, product-le 4294967295 4294967295 {a = x .a} {b = x .b} (search needs) (search needs))
 
 returns : tie.Need-returns
-returns c = simp (c .halves32 .ensures, c .before .carried .ensures)
+returns c = λ s. refl
 
 pub mul32-spec : {M : Type 1} → statement M
-mul32-spec = tie.close (tie.spec mul-p (λ c κs. search needs) (λ c κs. search needs) returns)
+mul32-spec = tie.close (tie.spec mul-p returns)
