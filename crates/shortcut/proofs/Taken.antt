@@ -12,7 +12,7 @@ use Rattle.conditions.specs.Conditions.{holds}
 use Rattle.machine.specs.Record.{Mem, at, wrap, register}
 use Rattle.machine.specs.Paging.{View, dwordAt}
 use Rattle.encoding.specs.Encodings.{classOf}
-use Rattle.encoding.specs.Attributes.{familyOf, arithmeticFamily, moveFamily, flowFamily, longOpcode}
+use Rattle.encoding.specs.Attributes.{familyOf, operationOf as operationIn, arithmeticFamily, moveFamily, flowFamily, longOpcode}
 use Rattle.machine.specs.Act.{ok}
 use Rattle.decode.specs.Decode.{signed, decode}
 use Rattle.decode.specs.Read.{logAt}
