@@ -78,14 +78,16 @@ scaleOf s = cond (ltb s 64) 1 (cond (ltb s 128) 2 (cond (ltb s 192) 4 8))
 abbrev pub indexOf : ℕ → ℕ
 indexOf s = cond (eqb (s / 8 % 8) 4) 8 (s / 8 % 8)
 
+-- in memory, with a displacement of so many bytes
+abbrev pub displaced : ℕ → ℕ → ℕ → ℕ → ℕ → Act Operand
+displaced eip n b i s = do
+  x ← number eip n
+  return (inMemory b i s x)
+
 -- after the SIB byte s: base 5 with mod 0 means a dword displacement and no base
 unfoldable pub afterSib : ℕ → ℕ → ℕ → Act Operand
 afterSib eip md s =
-    cond (eqb (s % 8) 5 && eqb md 0) (do
-      x ← number eip 4
-      return (inMemory 8 (indexOf s) (scaleOf s) x)) (do
-        x ← number eip (displacementBytes md)
-        return (inMemory (s % 8) (indexOf s) (scaleOf s) x))
+    cond (eqb (s % 8) 5 && eqb md 0) (displaced eip 4 8 (indexOf s) (scaleOf s)) (displaced eip (displacementBytes md) (s % 8) (indexOf s) (scaleOf s))
 
 -- after the ModRM byte b
 unfoldable pub afterModrm : ℕ → ℕ → Act Operand
@@ -94,12 +96,7 @@ afterModrm eip b =
     (cond (eqb (b % 8) 4) (do
       s ← fetch eip
       afterSib eip (b / 64) s)
-    (cond (eqb (b / 64) 0 && eqb (b % 8) 5) (do
-      x ← number eip 4
-      return (inMemory 8 8 1 x))
-    (do
-      x ← number eip (displacementBytes (b / 64))
-      return (inMemory (b % 8) 8 1 x))))
+    (cond (eqb (b / 64) 0 && eqb (b % 8) 5) (displaced eip 4 8 8 1) (displaced eip (displacementBytes (b / 64)) (b % 8) 8 1)))
 
 -- ---- the instruction
 

@@ -5,7 +5,7 @@ ghost use Prim.Native.Nat.{ℕ, _+_, _*_, _/_, _%_, _<_, _≤_, _^_};
 ghost use lib.ListN.{length};
 ghost use Rattle.machine.specs.Paging.{view};
 ghost use Rattle.encoding.specs.Encodings.{Classed};
-ghost use Rattle.decode.specs.Decode.{signed, fetchSigned, fetchWord, fetchDword, number, scaleOf, indexOf, displacementBytes, afterSib, afterModrm, finish, withModrm, withOffset, classed, decode};
+ghost use Rattle.decode.specs.Decode.{signed, fetchSigned, fetchWord, fetchDword, number, scaleOf, indexOf, displacementBytes, displaced, afterSib, afterModrm, finish, withModrm, withOffset, classed, decode};
 ghost use Rattle.decode.specs.Read.{logAt, CodeOk, FetchOk, PrefixOk, OpcodeOk, gotOf, missOf, formedOf, spoiltOf, readyOf};
 use encoding::Instruction;
 use encoding::Operand;
@@ -264,42 +264,48 @@ pub fn displacement_bytes(md: u32) -> u32
     0
 }
 
-fn after_sib(mem: &[u8], c: Control, s: Code, n: u32, md: u32, b: u32) -> Formed
+// An operand in memory, with a displacement of so many bytes.
+fn displaced(
+    mem: &[u8],
+    c: Control,
+    s: Code,
+    n: u32,
+    size: u32,
+    base: u32,
+    index: u32,
+    scale: u32,
+) -> Formed
     requires { ⌜ CodeOk (now mem) c s ⌝ }
-    ensures { λ r. ⌜ formedOf (s .eip) r ≡ afterSib (s .eip) md b (view (now (mem .entry)) c) (logAt (s .eip) n) ⌝ }
+    ensures { λ r. ⌜ formedOf (s .eip) r ≡ displaced (s .eip) size base index scale (view (now (mem .entry)) c) (logAt (s .eip) n) ⌝ }
 {
-    if (b % 8 == 5) & (md == 0) {
-        let r0 = number(mem, c, s, n, 4);
-        let Fetched::Got(x, k) = r0 else {
-            return Formed::Spoilt(miss(r0));
-        };
-        return Formed::Made(
-            Operand {
-                direct: false,
-                register: 0,
-                base: 8,
-                index: index_of(b),
-                scale: scale_of(b),
-                displacement: x,
-            },
-            k,
-        );
-    }
-    let r1 = number(mem, c, s, n, displacement_bytes(md));
-    let Fetched::Got(x, k) = r1 else {
-        return Formed::Spoilt(miss(r1));
+    let r0 = number(mem, c, s, n, size);
+    let Fetched::Got(x, k) = r0 else {
+        return Formed::Spoilt(miss(r0));
     };
     Formed::Made(
         Operand {
             direct: false,
             register: 0,
-            base: b % 8,
-            index: index_of(b),
-            scale: scale_of(b),
+            base,
+            index,
+            scale,
             displacement: x,
         },
         k,
     )
+}
+
+fn after_sib(mem: &[u8], c: Control, s: Code, n: u32, md: u32, b: u32) -> Formed
+    requires { ⌜ CodeOk (now mem) c s ⌝ }
+    ensures { λ r. ⌜ formedOf (s .eip) r ≡ afterSib (s .eip) md b (view (now (mem .entry)) c) (logAt (s .eip) n) ⌝ }
+{
+    let index = index_of(b);
+    let scale = scale_of(b);
+    if (b % 8 == 5) & (md == 0) {
+        return displaced(mem, c, s, n, 4, 8, index, scale);
+    }
+    let size = displacement_bytes(md);
+    displaced(mem, c, s, n, size, b % 8, index, scale)
 }
 
 // What follows the ModRM byte b.
@@ -328,37 +334,10 @@ fn after_modrm(mem: &[u8], c: Control, s: Code, n: u32, b: u32) -> Formed
         return after_sib(mem, c, s, k, b / 64, t);
     }
     if (b / 64 == 0) & (b % 8 == 5) {
-        let r0 = number(mem, c, s, n, 4);
-        let Fetched::Got(x, k) = r0 else {
-            return Formed::Spoilt(miss(r0));
-        };
-        return Formed::Made(
-            Operand {
-                direct: false,
-                register: 0,
-                base: 8,
-                index: 8,
-                scale: 1,
-                displacement: x,
-            },
-            k,
-        );
+        return displaced(mem, c, s, n, 4, 8, 8, 1);
     }
-    let r2 = number(mem, c, s, n, displacement_bytes(b / 64));
-    let Fetched::Got(x, k) = r2 else {
-        return Formed::Spoilt(miss(r2));
-    };
-    Formed::Made(
-        Operand {
-            direct: false,
-            register: 0,
-            base: b % 8,
-            index: 8,
-            scale: 1,
-            displacement: x,
-        },
-        k,
-    )
+    let size = displacement_bytes(b / 64);
+    displaced(mem, c, s, n, size, b % 8, 8, 1)
 }
 
 // The immediate, and the whole instruction.

@@ -32,48 +32,22 @@ returns-3 : tie.Need-returns-3
 unfolding afterModrm
 returns-3 c = rw (lt-leb _ _ (c .before .before .before .before .before .before .if1 .left), eq-eqb _ _ (c .before .before .before .before .before .if2 .taken), got _ (c .before .before .before .before .fetch .ensures .does) (c .before .before .r1 .given .1)) (c .after-sib .ensures)
 
-number-requires : tie.Need-number-requires
-number-requires c κs = search needs
-
-enum-known-r0 : tie.Need-enum-known-r0
-enum-known-r0 c = search needs
-
-enum-told-2 : tie.Need-enum-told-2
-enum-told-2 c = search needs
-
-miss-requires-2 : tie.Need-miss-requires-2
-miss-requires-2 c κs = search needs
+displaced-requires : tie.Need-displaced-requires
+displaced-requires c κs = search needs
 
 returns-4 : tie.Need-returns-4
 unfolding afterModrm
-returns-4 c = rw (lt-leb _ _ (c .before .before .before .before .before .before .if1 .left), ne-eqb _ _ (c .before .before .before .before .before .if2 .left), (c .before .before .before .before .if3 .taken), missed _ (c .before .before .before .number .ensures) (c .before .enum-told2 .given .1) (c .miss2 .ensures))
-
-returns-5 : tie.Need-returns-5
-unfolding afterModrm
-returns-5 c = rw (lt-leb _ _ (c .before .before .before .before .before .before .if1 .left), ne-eqb _ _ (c .before .before .before .before .before .if2 .left), (c .before .before .before .before .if3 .taken), got _ (c .before .before .before .number .ensures) (c .before .r0 .given .1))
+returns-4 c = rw (lt-leb _ _ (c .before .before .before .if1 .left), ne-eqb _ _ (c .before .before .if2 .left), (c .before .if3 .taken)) (c .displaced .ensures)
 
 displacement-bytes-requires : tie.Need-displacement-bytes-requires
 displacement-bytes-requires c κs = search needs
 
-number-requires-2 : tie.Need-number-requires-2
-number-requires-2 c κs = search needs
+displaced-requires-2 : tie.Need-displaced-requires-2
+displaced-requires-2 c κs = search needs
 
-enum-known-r2 : tie.Need-enum-known-r2
-enum-known-r2 c = search needs
-
-enum-told-3 : tie.Need-enum-told-3
-enum-told-3 c = search needs
-
-miss-requires-3 : tie.Need-miss-requires-3
-miss-requires-3 c κs = search needs
-
-returns-6 : tie.Need-returns-6
+returns-5 : tie.Need-returns-5
 unfolding afterModrm
-returns-6 c = rw (lt-leb _ _ (c .before .before .before .before .before .before .before .if1 .left), ne-eqb _ _ (c .before .before .before .before .before .before .if2 .left), (c .before .before .before .before .before .if3 .left), ← (c .before .before .before .before .displacement-bytes .ensures), missed _ (c .before .before .before .number2 .ensures) (c .before .enum-told3 .given .1) (c .miss3 .ensures))
-
-returns-7 : tie.Need-returns-7
-unfolding afterModrm
-returns-7 c = rw (lt-leb _ _ (c .before .before .before .before .before .before .before .if1 .left), ne-eqb _ _ (c .before .before .before .before .before .before .if2 .left), (c .before .before .before .before .before .if3 .left), ← (c .before .before .before .before .displacement-bytes .ensures), got _ (c .before .before .before .number2 .ensures) (c .before .r2 .given .1))
+returns-5 c = rw (lt-leb _ _ (c .before .before .before .before .if1 .left), ne-eqb _ _ (c .before .before .before .if2 .left), (c .before .before .if3 .left), ← (c .before .displacement-bytes .ensures)) (c .displaced2 .ensures)
 
 pub after-modrm-spec : {M : Type 1} → statement M
 after-modrm-spec =
@@ -87,16 +61,8 @@ after-modrm-spec =
     returns-2
     after-sib-requires
     returns-3
-    number-requires
-    enum-known-r0
-    enum-told-2
-    miss-requires-2
+    displaced-requires
     returns-4
-    returns-5
     displacement-bytes-requires
-    number-requires-2
-    enum-known-r2
-    enum-told-3
-    miss-requires-3
-    returns-6
-    returns-7)
+    displaced-requires-2
+    returns-5)
