@@ -7,6 +7,7 @@ mod report;
 mod results;
 
 use asking::Ask;
+use memory::Memory;
 use report::Tally;
 
 // Reads n bytes to b's start.
@@ -18,46 +19,66 @@ fn fill(fd: i32, b: &mut [u8], n: usize) -> bool {
     false
 }
 
-// Reads a part: a byte that says how long it is, and then the part. Answers its length, or 0 at the end.
-fn next(fd: i32, b: &mut [u8]) -> usize {
-    let mut head = [0u8; 1];
-    if !fill(fd, &mut head, 1) {
-        return 0;
-    }
-    let n = reading::wide(head[0]) as usize;
-    if fill(fd, b, n) { n } else { 0 }
+// The longest part of a file.
+const PART: usize = 256;
+
+// A part of a file: its length, or 0 at the end, and its bytes.
+struct Part {
+    n: usize,
+    bytes: [u8; PART],
 }
 
-// One case: laid in both memories, called on one, its results put into the other, compared, and both cleared again.
-fn agrees(b: &[u8], a: Ask, mem: &mut [u8], want: &mut [u8]) -> bool {
+// Reads a part: a byte that says how long it is, and then the part.
+fn next(fd: i32) -> Part {
+    let mut head = [0u8; 1];
+    let mut bytes = [0u8; PART];
+    if !fill(fd, &mut head, 1) {
+        return Part { n: 0, bytes };
+    }
+    let n = reading::wide(head[0]) as usize;
+    if !fill(fd, &mut bytes, n) {
+        return Part { n: 0, bytes };
+    }
+    Part { n, bytes }
+}
+
+// A case, and before a directed one what it asks, with its rule. The length is that of what was read first, or 0 at the end.
+struct Case {
+    n: usize,
+    asks: [u8; PART],
+    bytes: [u8; PART],
+}
+
+fn read_case(fd: i32, directed: bool) -> Case {
+    let first = next(fd);
+    let asks = first.bytes;
+    if !directed {
+        return Case {
+            n: first.n,
+            asks,
+            bytes: asks,
+        };
+    }
+    let second = next(fd);
+    let bytes = second.bytes;
+    Case {
+        n: if second.n == 0 { 0 } else { first.n },
+        asks,
+        bytes,
+    }
+}
+
+// One case: laid in memory, called, and all that it left compared; both memories are clear again afterwards.
+fn agrees(b: &[u8], a: Ask, mem: &mut Memory, want: &mut Memory) -> bool {
     let at = memory::lay_all(mem, b, true);
-    memory::lay_all(want, b, true);
     let c = asking::record(b, a);
     let r = asking::answered(a, c, mem);
     let p = results::same_answer(b, at, a, c, r);
-    let left = p.at;
-    memory::patch(want, b, left, true);
-    let same = p.same & memory::same_memory(b, left, mem, want);
-    memory::clear(mem, b, left);
-    memory::clear(want, b, left);
-    same
-}
-
-// Reads a case to b; before a directed one stands what it asks, with its rule, which goes to x. Answers the length of what was read first, or 0
-// at the end.
-fn read_case(fd: i32, directed: bool, x: &mut [u8], b: &mut [u8]) -> usize {
-    if !directed {
-        return next(fd, b);
-    }
-    let n = next(fd, x);
-    if next(fd, b) == 0 {
-        return 0;
-    }
-    n
+    p.same & memory::is_left(b, p.at, mem, want)
 }
 
 // Where it is asked: was all memory clear?
-fn clean(asked: bool, mem: &mut [u8]) -> bool {
+fn clean(asked: bool, mem: &mut Memory) -> bool {
     if asked {
         return memory::swept(mem);
     }
@@ -66,50 +87,49 @@ fn clean(asked: bool, mem: &mut [u8]) -> bool {
 
 // Compares a case. After a directed one, and after every 64th of the others, all memory must be clear again; a byte that is not counts
 // against that case.
-fn judged(directed: bool, turns: u32, x: &[u8], b: &[u8], mem: &mut [u8], want: &mut [u8]) -> bool {
+fn judged(directed: bool, turns: u32, k: Case, mem: &mut Memory, want: &mut Memory) -> bool {
+    let asks = k.asks;
+    let b = k.bytes;
     let a = if directed {
-        asking::directed(x)
+        asking::directed(&asks)
     } else {
-        asking::generated(b)
+        asking::generated(&b)
     };
-    let same = agrees(b, a, mem, want);
+    let same = agrees(&b, a, mem, want);
     clean(directed | (turns % 64 == 63), mem) & same
 }
 
+// The count with one case more.
+fn told(t: Tally, directed: bool, k: Case, same: bool) -> Tally {
+    let asks = k.asks;
+    let b = k.bytes;
+    report::told(t, reading::number(&b, 0), directed, &asks, k.n, same)
+}
+
 // Counts the cases of a file, on from what was counted before.
-fn table(
-    fd: i32,
-    directed: bool,
-    before: Tally,
-    x: &mut [u8],
-    b: &mut [u8],
-    mem: &mut [u8],
-    want: &mut [u8],
-) -> Tally {
+fn table(fd: i32, directed: bool, before: Tally, mem: &mut Memory, want: &mut Memory) -> Tally {
     let mut t = before;
     let mut turns: u32 = 0;
     while turns < 65536 {
-        let n = read_case(fd, directed, x, b);
-        if n == 0 {
+        let k = read_case(fd, directed);
+        if k.n == 0 {
             return t;
         }
-        let same = judged(directed, turns, x, b, mem, want);
-        t = report::told(t, reading::number(b, 0), directed, x, n, same);
+        let same = judged(directed, turns, k, mem, want);
+        t = told(t, directed, k, same);
         turns += 1;
     }
     t
 }
 
 // Opens a file of cases and counts them.
-fn file(path: &[u8], directed: bool, before: Tally, mem: &mut [u8], want: &mut [u8]) -> Tally {
+fn file(path: &[u8], directed: bool, before: Tally, mem: &mut Memory, want: &mut Memory) -> Tally {
     let fd = os::open_read(path);
     if fd < 0 {
         os::fail(path);
         return before;
     }
-    let mut x = [0u8; 256];
-    let mut b = [0u8; 256];
-    let t = table(fd, directed, before, &mut x, &mut b, mem, want);
+    let t = table(fd, directed, before, mem, want);
     libc::close(fd);
     t
 }

@@ -5,6 +5,9 @@ use crate::reading::number;
 use crate::reading::plus;
 use crate::reading::word;
 
+// All of it.
+pub type Memory = [u8; 32768];
+
 const PIECES: u32 = 41;
 
 fn put(mem: &mut [u8], at: u32, x: u8) {
@@ -44,7 +47,7 @@ pub fn lay_all(mem: &mut [u8], b: &[u8], keep: bool) -> u32 {
 }
 
 // Puts the bytes that the machine is to leave, or zeros there.
-pub fn patch(mem: &mut [u8], b: &[u8], from: u32, keep: bool) {
+fn patch(mem: &mut [u8], b: &[u8], from: u32, keep: bool) {
     let n = number(b, from);
     let mut at = plus(from, 1);
     let mut k: u32 = 0;
@@ -56,7 +59,7 @@ pub fn patch(mem: &mut [u8], b: &[u8], from: u32, keep: bool) {
     }
 }
 
-pub fn clear(mem: &mut [u8], b: &[u8], left: u32) {
+fn clear(mem: &mut [u8], b: &[u8], left: u32) {
     lay_all(mem, b, false);
     patch(mem, b, left, false);
 }
@@ -104,8 +107,23 @@ fn same_left(b: &[u8], from: u32, mem: &[u8], want: &[u8]) -> bool {
     same
 }
 
-pub fn same_memory(b: &[u8], left: u32, mem: &[u8], want: &[u8]) -> bool {
+fn same_memory(b: &[u8], left: u32, mem: &[u8], want: &[u8]) -> bool {
     same_laid(b, mem, want) & same_left(b, left, mem, want)
+}
+
+// Lays in want what the machine is to leave of the case.
+fn expect(want: &mut Memory, b: &[u8], left: u32) {
+    lay_all(want, b, true);
+    patch(want, b, left, true);
+}
+
+// Did the machine leave what it was to leave? Both memories are cleared.
+pub fn is_left(b: &[u8], left: u32, mem: &mut Memory, want: &mut Memory) -> bool {
+    expect(want, b, left);
+    let same = same_memory(b, left, mem, want);
+    clear(mem, b, left);
+    clear(want, b, left);
+    same
 }
 
 // Was all memory clear? It is afterwards.
