@@ -4,8 +4,11 @@ use crate::files;
 use crate::order;
 use crate::order::Order;
 use crate::run;
+use crate::run::Kept;
+use account::Rows;
 use given::Listed;
 use given::Slip;
+use journal::Tally;
 use journal::Voice;
 use machine::Cpu;
 use pass::Passed;
@@ -61,89 +64,108 @@ fn slip(n: u32, s: Slip) {
     }
 }
 
-// Makes the edits for a pass, opens its row with what is due to be sent, and copies memory. False where there is no room for that.
-fn edit(
-    mem: &mut [u8],
-    ground: &[u8],
-    rows: &mut [u32],
-    copies: &mut [u8],
-    slots: &mut [u32],
-    s: &[u8],
-    p: Plan,
-    pass: u32,
-) -> bool {
-    let a = waypoints::apply(s, pass, mem, p);
-    let changed = waypoints::differing(mem, p, ground);
-    account::open(rows, pass, a.edits, a.jitters, changed);
-    frames::remember(mem, copies, slots)
+// What is due before a pass.
+struct Due {
+    edits: u32,
+    jitters: u32,
+    changed: u32,
 }
 
-// Plays one pass, with an audit before and after, and closes its row.
+// Makes the edits for a pass, and counts what the ground then has otherwise.
+fn edit(mem: &mut [u8], ground: &[u8], s: &[u8], p: Plan, pass: u32) -> Due {
+    let a = waypoints::apply(s, pass, mem, p);
+    let changed = waypoints::differing(mem, p, ground);
+    Due {
+        edits: a.edits,
+        jitters: a.jitters,
+        changed,
+    }
+}
+
+// A pass, what the audits said before and after it, and the frames that it changed.
+struct Played {
+    passed: Passed,
+    before: u32,
+    after: u32,
+    tally: Tally,
+}
+
+// What is seen of memory after a pass.
+fn seen(mem: &[u8], copies: &[u8], k: Kept, before: u32, r: Passed) -> Played {
+    let e = r.cpu;
+    let slots = k.slots;
+    let after = journal::number(micro32::audit(e, mem));
+    let tally = journal::frames(Voice::Silent, mem, e.control, copies, &slots);
+    Played {
+        passed: r,
+        before,
+        after,
+        tally,
+    }
+}
+
+// Plays one pass, with an audit before and after.
 fn play(
     mem: &mut [u8],
     ground: &mut [u8],
-    rows: &mut [u32],
     copies: &[u8],
-    slots: &[u32],
-    p: Plan,
+    k: Kept,
+    waypoints: u32,
     c: Cpu,
     o: Order,
-    pass: u32,
-) -> Passed {
+) -> Played {
     let before = journal::number(micro32::audit(c, mem));
-    let r = pass::play(
-        mem,
-        ground,
-        p.waypoints,
-        c,
-        o.budget,
-        report::voice(o.plain),
-    );
-    let e = r.cpu;
-    let after = journal::number(micro32::audit(e, mem));
-    let t = journal::frames(Voice::Silent, mem, e.control, copies, slots);
-    let d = r.done;
-    account::work(rows, pass, d.sent, d.bytes, d.steps);
-    account::close(rows, pass, t, before, after);
-    r
+    let v = report::voice(o.plain);
+    let r = pass::play(mem, ground, waypoints, c, o.budget, v);
+    seen(mem, copies, k, before, r)
 }
 
-fn tell(mem: &[u8], rows: &[u32], r: Passed, pass: u32, plain: bool) {
-    account::end(rows, pass, plain);
-    let c = r.cpu;
-    let q = r.reply;
-    report::reply(mem, c, q, plain);
+// The rows with that of the pass closed.
+fn closed(rows: Rows, pass: u32, y: Played) -> Rows {
+    let r = y.passed;
+    let d = r.done;
+    let t = y.tally;
+    let worked = account::work(rows, pass, d.sent, d.bytes, d.steps);
+    account::close(worked, pass, t, y.before, y.after)
 }
 
 // A pass that the guest did not end by itself: why, and whether the kernel's records were touched.
-fn stopped(
-    mem: &[u8],
-    rows: &[u32],
-    copies: &[u8],
-    slots: &[u32],
-    r: Passed,
-    pass: u32,
-    plain: bool,
-) {
+fn stopped(mem: &[u8], rows: Rows, copies: &[u8], k: Kept, r: Passed, pass: u32, plain: bool) {
     if !plain {
         account::break_off(rows, pass);
         let c = r.cpu;
         let q = r.reply;
         report::reply(mem, c, q, plain);
     }
-    report::records(mem, copies, slots, plain);
+    let slots = k.slots;
+    report::records(mem, copies, &slots, plain);
 }
 
-// Whether there is a next pass, and the record that it begins with.
+// Whether there is a next pass, the record that it begins with, and the rows so far.
 struct Next {
     goes_on: bool,
     cpu: Cpu,
+    rows: Rows,
 }
 
-fn end_here(cpu: Cpu) -> Next {
+// Tells what came of a pass.
+fn tell(mem: &[u8], rows: Rows, copies: &[u8], k: Kept, r: Passed, pass: u32, plain: bool) -> Next {
+    account::end(rows, pass, plain);
+    let c = r.cpu;
+    let q = r.reply;
+    report::reply(mem, c, q, plain);
+    if !pass::is_end(q) {
+        stopped(mem, rows, copies, k, r, pass, plain);
+        return Next {
+            goes_on: false,
+            cpu: c,
+            rows,
+        };
+    }
     Next {
-        goes_on: false,
-        cpu,
+        goes_on: true,
+        cpu: pass::after(c, q),
+        rows,
     }
 }
 
@@ -151,56 +173,50 @@ fn end_here(cpu: Cpu) -> Next {
 fn play_and_tell(
     mem: &mut [u8],
     ground: &mut [u8],
-    rows: &mut [u32],
+    rows: Rows,
     copies: &[u8],
-    slots: &[u32],
-    p: Plan,
+    k: Kept,
+    waypoints: u32,
     c: Cpu,
     o: Order,
     pass: u32,
 ) -> Next {
-    let r = play(mem, ground, rows, copies, slots, p, c, o, pass);
-    tell(mem, rows, r, pass, o.plain);
-    let q = r.reply;
-    let e = r.cpu;
-    if !pass::is_end(q) {
-        stopped(mem, rows, copies, slots, r, pass, o.plain);
-        return end_here(e);
-    }
-    Next {
-        goes_on: true,
-        cpu: pass::after(e, q),
-    }
+    account::begin(rows, pass, o.plain);
+    let y = play(mem, ground, copies, k, waypoints, c, o);
+    let r = y.passed;
+    tell(mem, closed(rows, pass, y), copies, k, r, pass, o.plain)
 }
 
-// One pass with all that belongs to it.
+// One pass with all that belongs to it: its edits, its row, and the copy of memory that it is compared with.
 fn turn(
     mem: &mut [u8],
     ground: &mut [u8],
-    rows: &mut [u32],
+    before: Rows,
     copies: &mut [u8],
-    slots: &mut [u32],
     s: &[u8],
     p: Plan,
-    c: Cpu,
+    cpu: Cpu,
     o: Order,
     pass: u32,
 ) -> Next {
-    if !edit(mem, ground, rows, copies, slots, s, p, pass) {
-        run::complain_of_frames();
-        return end_here(c);
+    let d = edit(mem, ground, s, p, pass);
+    let rows = account::open(before, pass, d.edits, d.jitters, d.changed);
+    let k = run::remembered(mem, copies);
+    if !k.fits {
+        return Next {
+            goes_on: false,
+            cpu,
+            rows,
+        };
     }
-    account::begin(rows, pass, o.plain);
-    play_and_tell(mem, ground, rows, copies, slots, p, c, o, pass)
+    play_and_tell(mem, ground, rows, copies, k, p.waypoints, cpu, o, pass)
 }
 
 // All passes, or up to the first that the guest does not end by itself.
 fn passes(
     mem: &mut [u8],
     ground: &mut [u8],
-    rows: &mut [u32],
     copies: &mut [u8],
-    slots: &mut [u32],
     s: &[u8],
     p: Plan,
     c: Cpu,
@@ -208,15 +224,18 @@ fn passes(
     last: u32,
 ) {
     let mut cpu = c;
+    let mut rows = account::blank();
     let mut pass: u32 = 0;
     while pass < last {
         pass += 1;
-        let n = turn(mem, ground, rows, copies, slots, s, p, cpu, o, pass);
+        let n = turn(mem, ground, rows, copies, s, p, cpu, o, pass);
         if !n.goes_on {
             return;
         }
         let next = n.cpu;
         cpu = next;
+        let so_far = n.rows;
+        rows = so_far;
     }
     let differing = waypoints::differing(mem, p, ground);
     account::sum_up(rows, last, p.waypoints, differing, o.plain);
@@ -225,21 +244,8 @@ fn passes(
 // The passes that the edits name and one more, from a ground that has the plan as it was last sent.
 fn begin(mem: &mut [u8], copies: &mut [u8], s: &[u8], p: Plan, c: Cpu, o: Order, last: u32) {
     let mut ground = [0u8; 65536];
-    let mut rows = [0u32; account::ROOM];
-    let mut slots = [0u32; run::FRAMES];
     waypoints::seed(mem, p, &mut ground);
-    passes(
-        mem,
-        &mut ground,
-        &mut rows,
-        copies,
-        &mut slots,
-        s,
-        p,
-        c,
-        o,
-        last,
-    );
+    passes(mem, &mut ground, copies, s, p, c, o, last);
 }
 
 // The plan and the edits must both be good before anything is run.

@@ -4,11 +4,25 @@ use crate::files;
 use crate::order::Order;
 use machine::Cpu;
 
-// The frames of memory, and what is said where copies of them do not fit.
-pub const FRAMES: usize = 1024;
+// The frames of memory.
+const FRAMES: usize = 1024;
 
-pub fn complain_of_frames() {
-    ask::complain_at_all(b"more than 960 frames of memory are not blank; give a smaller memory");
+// Which copy belongs to which frame, if the copies fit.
+pub struct Kept {
+    pub fits: bool,
+    pub slots: [u32; FRAMES],
+}
+
+// Copies memory, and says so where the copies do not fit.
+pub fn remembered(mem: &[u8], copies: &mut [u8]) -> Kept {
+    let mut slots = [0u32; FRAMES];
+    let fits = frames::remember(mem, copies, &mut slots);
+    if !fits {
+        ask::complain_at_all(
+            b"more than 960 frames of memory are not blank; give a smaller memory",
+        );
+    }
+    Kept { fits, slots }
 }
 
 fn one_pass(mem: &mut [u8], copies: &[u8], slots: &[u32], c: Cpu, o: Order) {
@@ -28,11 +42,11 @@ pub fn run(mem: &mut [u8], copies: &mut [u8], o: Order) {
     if !r.good {
         return;
     }
-    let mut slots = [0u32; FRAMES];
-    if !frames::remember(mem, copies, &mut slots) {
-        complain_of_frames();
+    let k = remembered(mem, copies);
+    if !k.fits {
         return;
     }
+    let slots = k.slots;
     report::heading(r.bytes, o.load, o.size, o.budget, o.plain);
     let c = r.cpu;
     one_pass(mem, copies, &slots, c, o);

@@ -7,12 +7,15 @@ use Rattle.gateway.proofs.bill.passes.Statement.{statement}
 use Rattle.gateway.proofs.bill.passes.Tie as tie
 
 abbrev Inv-loop : tie.InvT-loop
-Inv-loop mem₀ ground₀ rows₀ copies₀ slots₀ s p o last cpu₀ pass₀ mem ground rows copies slots cpu pass =
-    (length mem ≡ length mem₀) × ((length ground ≡ length ground₀) × ((length rows ≡ length rows₀) × ((length copies ≡ length copies₀) × (length slots ≡ length slots₀))))
+Inv-loop mem₀ ground₀ copies₀ s p o last cpu₀ rows₀ pass₀ mem ground copies cpu rows pass =
+    (length mem ≡ length mem₀) × ((length ground ≡ length ground₀) × (length copies ≡ length copies₀))
 
 abbrev μ-loop : tie.MeasureT-loop
-μ-loop mem₀ ground₀ rows₀ copies₀ slots₀ s p o last cpu₀ pass₀ mem ground rows copies slots cpu pass =
+μ-loop mem₀ ground₀ copies₀ s p o last cpu₀ rows₀ pass₀ mem ground copies cpu rows pass =
     last - pass
+
+blank-requires : tie.Need-blank-requires Inv-loop μ-loop
+blank-requires c κs = search needs
 
 loop-holds : tie.Need-loop-holds Inv-loop μ-loop
 loop-holds c = search needs
@@ -32,12 +35,6 @@ same-length-2 c = search needs
 same-length-3 : tie.Need-same-length-3 Inv-loop μ-loop
 same-length-3 c = search needs
 
-same-length-4 : tie.Need-same-length-4 Inv-loop μ-loop
-same-length-4 c = search needs
-
-same-length-5 : tie.Need-same-length-5 Inv-loop μ-loop
-same-length-5 c = search needs
-
 returns : tie.Need-returns Inv-loop μ-loop
 returns c = search needs
 
@@ -53,20 +50,14 @@ differing-requires c κs = search needs
 sum-up-requires : tie.Need-sum-up-requires Inv-loop μ-loop
 sum-up-requires c κs = search needs
 
+same-length-4 : tie.Need-same-length-4 Inv-loop μ-loop
+same-length-4 c = search needs
+
+same-length-5 : tie.Need-same-length-5 Inv-loop μ-loop
+same-length-5 c = search needs
+
 same-length-6 : tie.Need-same-length-6 Inv-loop μ-loop
 same-length-6 c = search needs
-
-same-length-7 : tie.Need-same-length-7 Inv-loop μ-loop
-same-length-7 c = search needs
-
-same-length-8 : tie.Need-same-length-8 Inv-loop μ-loop
-same-length-8 c = search needs
-
-same-length-9 : tie.Need-same-length-9 Inv-loop μ-loop
-same-length-9 c = search needs
-
-same-length-10 : tie.Need-same-length-10 Inv-loop μ-loop
-same-length-10 c = search needs
 
 returns-2 : tie.Need-returns-2 Inv-loop μ-loop
 returns-2 c = search needs
@@ -77,22 +68,19 @@ passes-spec =
     (tie.spec
     Inv-loop
     μ-loop
+    blank-requires
     loop-holds
     add-pass
     turn-requires
     same-length
     same-length-2
     same-length-3
-    same-length-4
-    same-length-5
     returns
     loop-less
     loop-again
     differing-requires
     sum-up-requires
+    same-length-4
+    same-length-5
     same-length-6
-    same-length-7
-    same-length-8
-    same-length-9
-    same-length-10
     returns-2)
