@@ -2,6 +2,7 @@
 ghost use Prim.Native.Nat.{_≤_};
 use crate::ask;
 use given::Number;
+use libc::STDERR_FILENO;
 
 pub struct Order {
     pub load: u32,
@@ -39,24 +40,30 @@ fn refused(i: usize, words: &[u8]) -> Asked {
     Asked::Refused
 }
 
+// The number of an argument, and a sentence where it is none.
+fn number(i: usize, name: &[u8]) -> Number {
+    let n = ask::number(i);
+    if let Number::Value(_) = n {
+        return n;
+    }
+    ask::begin(i);
+    text::say(STDERR_FILENO, name);
+    text::say(
+        STDERR_FILENO,
+        b" is no number (decimal, or hexadecimal with 0x)\n",
+    );
+    n
+}
+
 fn numbers(plain: bool) -> Asked {
-    let Number::Value(load) = ask::number(LOAD) else {
-        return refused(
-            LOAD,
-            b"the load address is no number (decimal, or hexadecimal with 0x)",
-        );
+    let Number::Value(load) = number(LOAD, b"the load address") else {
+        return Asked::Refused;
     };
-    let Number::Value(budget) = ask::number(BUDGET) else {
-        return refused(
-            BUDGET,
-            b"the budget is no number (decimal, or hexadecimal with 0x)",
-        );
+    let Number::Value(budget) = number(BUDGET, b"the budget") else {
+        return Asked::Refused;
     };
-    let Number::Value(size) = ask::number(SIZE) else {
-        return refused(
-            SIZE,
-            b"the size of memory is no number (decimal, or hexadecimal with 0x)",
-        );
+    let Number::Value(size) = number(SIZE, b"the size of memory") else {
+        return Asked::Refused;
     };
     if !is_size(size) {
         return refused(
