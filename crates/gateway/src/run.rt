@@ -30,7 +30,10 @@ fn one_pass(mem: &mut [u8], copies: &[u8], slots: &[u32], c: Cpu, o: Order) {
     report::before(mem, c, o.plain);
     let mut none = [0u8; 1];
     let p = pass::play(mem, &mut none, 0, c, o.budget, report::voice(o.plain));
-    report::after(mem, copies, slots, p, o.plain);
+    let e = p.cpu;
+    let q = p.reply;
+    let d = p.done;
+    report::after(mem, copies, slots, e, q, d.sent, d.bytes, d.steps, o.plain);
     if known {
         report::records(mem, copies, slots, o.plain);
     }

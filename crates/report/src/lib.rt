@@ -4,8 +4,6 @@ use journal::Voice;
 use libc::STDOUT_FILENO;
 use machine::Cpu;
 use machine::Reply;
-use pass::Done;
-use pass::Passed;
 
 fn label(words: &[u8]) {
     text::say(STDOUT_FILENO, words);
@@ -27,19 +25,19 @@ pub fn reply(mem: &[u8], c: Cpu, q: Reply, plain: bool) {
     answer(mem, c, q, plain, b"reply", b"  reply         ");
 }
 
-fn work(d: Done, plain: bool) {
+fn work(sent: u32, bytes: u32, steps: u32, plain: bool) {
     if plain {
-        text::count_line(STDOUT_FILENO, b"sent", d.sent);
-        text::count_line(STDOUT_FILENO, b"bytes", d.bytes);
-        text::count_line(STDOUT_FILENO, b"steps", d.steps);
+        text::count_line(STDOUT_FILENO, b"sent", sent);
+        text::count_line(STDOUT_FILENO, b"bytes", bytes);
+        text::count_line(STDOUT_FILENO, b"steps", steps);
         return;
     }
     label(b"  sent          ");
-    text::counted(STDOUT_FILENO, d.sent, b" waypoint");
+    text::counted(STDOUT_FILENO, sent, b" waypoint");
     label(b", ");
-    text::counted(STDOUT_FILENO, d.bytes, b" byte");
+    text::counted(STDOUT_FILENO, bytes, b" byte");
     label(b"\n  steps Done    ");
-    text::decimal(STDOUT_FILENO, d.steps);
+    text::decimal(STDOUT_FILENO, steps);
     text::end(STDOUT_FILENO);
 }
 
@@ -79,11 +77,19 @@ pub fn records(mem: &[u8], copies: &[u8], slots: &[u32], plain: bool) {
     }
 }
 
-// All that is told after a pass, but for the records.
-pub fn after(mem: &[u8], copies: &[u8], slots: &[u32], p: Passed, plain: bool) {
-    let c = p.cpu;
-    let q = p.reply;
-    work(p.done, plain);
+// All that is told after a pass, but for the records: what it ended with, and what it sent.
+pub fn after(
+    mem: &[u8],
+    copies: &[u8],
+    slots: &[u32],
+    c: Cpu,
+    q: Reply,
+    sent: u32,
+    bytes: u32,
+    steps: u32,
+    plain: bool,
+) {
+    work(sent, bytes, steps, plain);
     reply(mem, c, q, plain);
     answer(
         mem,
