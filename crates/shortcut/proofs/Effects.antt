@@ -4,7 +4,7 @@ use Prim.Native.Nat.{ℕ, _%_, _<_, _≤_}
 use mathlib.Core.Logic.{_≢_}
 use borrow.Author.Tests.{ltb-true}
 use mathlib.Core.Path.{_≡_, refl, sym, _∙_}
-use mathlib.Core.Bool.{Bool, true, false}
+use mathlib.Core.Bool.{Bool, true, false, cond}
 use native.Mathlib.Omega.{arith}
 use lib.Dec.{ltb, eqb}
 use mir.Val.{Fits}
@@ -13,7 +13,9 @@ use Rattle.alu.specs.declared.Status.{Status}
 use Rattle.alu.specs.declared.Out.{Out}
 use Rattle.alu.specs.Arithmetic.{low, operation, operate, operateOne, single, increment, decrement}
 use Rattle.alu.proofs.Operations.{low-dword}
-use Rattle.shortcut.specs.Shortcut.{outOf}
+use Rattle.shifts.specs.Shifts.{times, shiftStatus, shiftLeft, shiftRight, shiftRightSigned, shifted, shift}
+use Rattle.products.specs.Products.{product}
+use Rattle.shortcut.specs.Shortcut.{lowOut, outOf}
 
 -- neither an operation of two operands nor INC
 pub past-ten : (op : ℕ) → 9 ≤ op → op ≢ 9 → ltb op 10 ≡ false
@@ -40,9 +42,28 @@ module _ (x y : ℕ) (s : Status) (hx : Fits w32 x) where
   unfolding outOf operateOne single
   counted-up h e = rw (h, whole x hx) e
 
-  pub counted-down : (op : ℕ) {r : Out} → ltb op 10 ≡ false → eqb op 10 ≡ false → r ≡ decrement 32 x s → r ≡ outOf op true x y s
+  pub counted-down : {op : ℕ} {r : Out} → op ≡ 11 → r ≡ decrement 32 x s → r ≡ outOf op true x y s
   unfolding outOf operateOne single
-  counted-down op l n e = rw (l, n, whole x hx) e
+  counted-down h e = rw (h, whole x hx) e
+
+  pub multiplied : {op : ℕ} {r : Out} → op ≡ 14 → r ≡ lowOut (product true true x y s) → r ≡ outOf op true x y s
+  unfolding outOf
+  multiplied h e = rw h e
+
+  pub moved-by : (op : ℕ) {r : Out} → ltb op 10 ≡ false → eqb op 10 ≡ false → eqb op 11 ≡ false → eqb op 14 ≡ false → r ≡ shifted (op % 8) 32 (y % 32) x s
+      → r ≡ outOf op true x y s
+  unfolding outOf shift
+  moved-by op l n d t e = rw (l, n, d, t, whole x hx) e
+
+-- no place at all
+pub none-shifted : (op n x : ℕ) (s : Status) → n ≡ 0 → record { value = x; status = s } ≡ shifted op 32 n x s
+unfolding shifted shiftStatus times
+none-shifted op n x s h = by (eqb op 4) (eqb op 5)
+  where
+    by : (p q : Bool) → record { value = x; status = s } ≡ cond p (shiftLeft 32 n x s) (cond q (shiftRight 32 n x s) (shiftRightSigned 32 n x s))
+    by true q = rw h
+    by false true = rw h
+    by false false = rw h
 
 -- the same for bytes
 module _ (x y : ℕ) (s : Status) (hx : x < 256) (hy : y < 256) where

@@ -6,7 +6,7 @@ use mathlib.Core.Bool.{Bool, true, false, cond, false≢true}
 use mathlib.Core.List.{List}
 use native.Mathlib.Omega.{arith}
 use borrow.Author.Tests.{lt-ltb}
-use lib.Dec.{ltb}
+use lib.Dec.{ltb, eqb}
 use Rattle.alu.specs.declared.Status.{Status}
 use Rattle.alu.specs.Arithmetic.{operate, operation, writes}
 use Rattle.machine.specs.declared.Core.{Core}
@@ -19,16 +19,26 @@ use Rattle.encoding.specs.Attributes.{regField}
 use Rattle.decode.specs.Decode.{decode}
 use Rattle.decode.specs.Read.{logAt}
 use Rattle.operands.specs.Operands.{scaled, address, operandWant, operandValue, deposit}
-use Rattle.arithmetic.specs.Arithmetic.{combined, combinedFrom, doCombineFrom}
+use Rattle.arithmetic.specs.Arithmetic.{combined, combinedFrom, doCombineFrom, deposited, doMultiplyBy}
 use Rattle.moves.specs.Moves.{doAddress}
 use Rattle.execute.specs.Execute.{permitted, writesOperand, readsOperand, first, second, computeArithmetic, computeMove, compute}
 use Rattle.shortcut.specs.Bytes.{operandAt}
-use Rattle.shortcut.specs.Forms.{file, isDirect, isOdd, spotOf, leftFast, fromFast, addressFast, upTo}
+use Rattle.shifts.specs.Shifts.{shift}
+use Rattle.shortcut.specs.Forms.{file, isDirect, isOdd, spotOf, leftFast, numberAt, timesFast, fromFast, addressFast, upTo}
 use Rattle.shortcut.specs.Shortcut.{wantFirst, wantSecond, outOf, resultOf, stacked, depositOf, coreAfter, Fits, coreFrom}
 use Rattle.shortcut.proofs.Decoded.{operand-direct, operand-register}
 
 pub below-eight : (x : ℕ) → ltb (x % 8) 8 ≡ true
 below-eight x = let h : x % 8 < 8 = omega arith in lt-ltb (x % 8) 8 h
+
+-- a shift's number, 8 above its reg field, is no other operation's
+pub record Shifting (g : ℕ) : Type 0 where
+  pub low : ltb (8 + g) 10 ≡ false
+  pub inc : eqb (8 + g) 10 ≡ false
+  pub dec : eqb (8 + g) 11 ≡ false
+  pub imul : eqb (8 + g) 14 ≡ false
+  pub writing : writes (8 + g) ≡ true
+  pub back : (8 + g) % 8 ≡ g
 
 module _ (v : View) (m : Mem) (e : List ℕ) (s : Status) (eip i : ℕ) (int dir : Bool) where
   abbrev k : Core
@@ -122,6 +132,76 @@ module _ (v : View) (m : Mem) (e : List ℕ) (s : Status) (eip i : ℕ) (int dir
               done = λ a. rw (comp a, w);
               core = λ a _. rw (comp a, w, direct d, d, low);
               value = λ a _ _. rw (comp a, w, direct d, d, low);
+            }
+
+  -- ---- shifts of the operand, and its product
+
+  module _ (f x y n : ℕ) (odd : isOdd b ≡ true) (by : Shifting (regField md))
+      (de : decode eip v (logAt eip 0) ≡ ok (combining f (regField md) x n) (logAt eip n))
+      (free′ : (iopl ring : ℕ) → permitted (combining f (regField md) x n) iopl ring ≡ true)
+      (first′ : first (combining f (regField md) x n) (file e) ≡ operandWant true (combining f (regField md) x n) (file e))
+      (second′ : second (combining f (regField md) x n) (file e) ≡ Nothing)
+      (comp : (a : ℕ) → compute (combining f (regField md) x n) k a ≡ deposited (combining f (regField md) x n) k (shift (regField md) true y (operandValue (combining f (regField md) x n) (file e) a) s)) where
+    pub shift-fits : Fits v k (leftFast m e eip i (8 + regField md) b md y n)
+    unfolding deposit operandValue operandWant leftFast spotOf wantFirst wantSecond outOf resultOf stacked depositOf coreAfter
+    shift-fits = at-operand (isDirect md) refl
+      where
+        at-operand : (d : Bool) → isDirect md ≡ d → Fits v k (leftFast m e eip i (8 + regField md) b md y n)
+        at-operand true d =
+            let r = operand-register m (i + 2) md d in
+            record {
+              instr = combining f (regField md) x n;
+              decodes = de;
+              free = free′;
+              firstly = first′ ∙ rw (direct d, d);
+              secondly = second′ ∙ rw d;
+              done = λ a. rw (comp a);
+              core = λ a _. rw (comp a, by .writing, direct d, d, odd, by .low, by .inc, by .dec, by .imul, by .back, r, below-eight md);
+              value = λ a _ _. rw (comp a, direct d, d, odd, by .low, by .inc, by .dec, by .imul, by .back, r);
+            }
+        at-operand false d =
+            record {
+              instr = combining f (regField md) x n;
+              decodes = de;
+              free = free′;
+              firstly = first′ ∙ rw (by .writing, direct d, d);
+              secondly = second′ ∙ rw (d, by .writing);
+              done = λ a. rw (comp a);
+              core = λ a _. rw (comp a, by .writing, direct d, d, odd, by .low, by .inc, by .dec, by .imul, by .back);
+              value = λ a _ _. rw (comp a, by .writing, direct d, d, odd, by .low, by .inc, by .dec, by .imul, by .back);
+            }
+
+  module _ (op x n : ℕ) (long : Bool) (number : x ≡ numberAt long m (i + upTo m i md)) (len : n ≡ upTo m i md + cond long 4 1) where
+    abbrev timing : Instruction
+    timing = record { family = 8; operation = op; wide = true; register = regField md; operand = operandAt m (i + 2) md; immediate = x; length = n }
+
+    pub times-fits : decode eip v (logAt eip 0) ≡ ok timing (logAt eip n) → Fits v k (timesFast m e eip i long md)
+    unfolding first second writesOperand readsOperand compute computeArithmetic doMultiplyBy operandValue operandWant writeAt timesFast spotOf wantFirst wantSecond outOf resultOf stacked depositOf coreAfter
+    times-fits de = at-operand (isDirect md) refl
+      where
+        at-operand : (d : Bool) → isDirect md ≡ d → Fits v k (timesFast m e eip i long md)
+        at-operand true d =
+            let r = operand-register m (i + 2) md d in
+            record {
+              instr = timing;
+              decodes = de;
+              free = λ _ _. refl;
+              firstly = rw (direct d, d);
+              secondly = rw d;
+              done = λ a. refl;
+              core = λ a _. rw (direct d, d, r, below-eight (md / 8), len, number);
+              value = λ a _ z. absurd (false≢true (rw d at z));
+            }
+        at-operand false d =
+            record {
+              instr = timing;
+              decodes = de;
+              free = λ _ _. refl;
+              firstly = rw (direct d, d);
+              secondly = rw d;
+              done = λ a. refl;
+              core = λ a _. rw (direct d, d, below-eight (md / 8), len, number);
+              value = λ a _ z. absurd (false≢true (rw d at z));
             }
 
   -- ---- on the register

@@ -14,6 +14,9 @@ pub cond-le : (b : Bool) (n : ℕ) {x y : ℕ} → x ≤ n → y ≤ n → cond 
 cond-le true n h k = h
 cond-le false n h k = k
 
+pub one-or-none : (b : Bool) → cond b 1 0 ≤ 1
+one-or-none b = cond-le b 1 (omega arith) (omega arith)
+
 pub four-or-one : (b : Bool) → cond b 4 1 ≤ 4
 four-or-one b = cond-le b 4 (omega arith) (omega arith)
 

@@ -1,30 +1,30 @@
 -- Each encoding that is taken: from the bytes that the code read to the instruction in its short form.
 -- Assumes nothing.
-use Prim.Native.Nat.{ℕ, _+_, _/_, _%_, _<_}
-use mathlib.Core.Path.{_≡_, refl, sym, ap, _∙_}
-use mathlib.Core.Bool.{Bool, true, false, cond, _||_, false≢true}
+use Prim.Native.Nat.{ℕ, _+_, _/_, _%_, _<_, _≤_}
+use mathlib.Core.Path.{_≡_, refl, sym, subst, ap, _∙_}
+use mathlib.Core.Bool.{Bool, true, false, cond, _||_, false≢true, not}
 use mathlib.Core.List.{List}
 use native.Mathlib.Omega.{arith}
-use borrow.Author.Tests.{lt-ltb, lt-leb, ne-eqb, eqb-true}
+use borrow.Author.Tests.{lt-ltb, le-ltb, lt-leb, eq-eqb, ne-eqb, eqb-true, ltb-false, not-false}
 use lib.Dec.{ltb, eqb}
 use Rattle.alu.specs.declared.Status.{Status}
 use Rattle.conditions.specs.Conditions.{holds}
-use Rattle.machine.specs.Record.{Mem, at, wrap, register}
+use Rattle.machine.specs.Record.{Mem, at, wrap, register, readAt}
 use Rattle.machine.specs.Paging.{View, dwordAt}
 use Rattle.encoding.specs.Encodings.{classOf}
 use Rattle.encoding.specs.Attributes.{familyOf, operationOf as operationIn, arithmeticFamily, moveFamily, flowFamily, longOpcode}
 use Rattle.machine.specs.Act.{ok}
 use Rattle.decode.specs.Decode.{signed, decode}
 use Rattle.decode.specs.Read.{logAt}
-use Rattle.execute.specs.Execute.{second, computeArithmetic, compute}
-use Rattle.arithmetic.specs.Arithmetic.{doCombineTo, doCombineImmediate}
+use Rattle.execute.specs.Execute.{first, second, writesOperand, computeArithmetic, compute}
+use Rattle.arithmetic.specs.Arithmetic.{doCombineTo, doCombineImmediate, doShift}
 use Rattle.shortcut.specs.declared.Fast.{Fast}
 use Rattle.shortcut.specs.Bytes.{Shows}
-use Rattle.shortcut.specs.Forms.{file, isDirect, upTo, numberAt, operationOf, leftFast, toFast, fromFast, numberFast, addressFast, loadFast, countFast, jumpFast, pushFast, popFast}
+use Rattle.shortcut.specs.Forms.{file, isDirect, upTo, numberAt, operationOf, placesAt, placesFast, timesFast, leftFast, toFast, fromFast, numberFast, addressFast, loadFast, countFast, jumpFast, pushFast, popFast, isOdd}
 use Rattle.shortcut.specs.Shortcut.{Fits, coreFrom, Idle, FastOk}
 use Rattle.shortcut.proofs.Small.{operand-few}
 use Rattle.shortcut.proofs.Decoded.{number-none, number-one, number-four, number-long, with-modrm, without-modrm}
-use Rattle.shortcut.proofs.Fitting.{left-fits, first-to, first-number, from-fits, address-fits}
+use Rattle.shortcut.proofs.Fitting.{left-fits, first-to, first-number, from-fits, address-fits, Shifting, shift-fits, times-fits}
 use Rattle.shortcut.proofs.Singles.{naming, load-fits, inc-fits, dec-fits, jump-fits, jump-on, jump-off, push-fits, call-fits, pop-fits, return-fits}
 
 pub not-taken : (m : Mem) (e : List ℕ) (s : Status) (eip i : ℕ) (p : Fast) → (p .taken ≡ false) × (p .jumps ≡ false) → FastOk m e s eip i p
@@ -40,6 +40,34 @@ module _ (m : Mem) (e : List ℕ) (s : Status) (eip i : ℕ) (p : Fast) where
 
   jumping : Idle p → Fitting → FastOk m e s eip i p
   jumping h f = record { fits = λ _. f; idle = λ _. h }
+
+or-left : (x y : Bool) → (x || y) ≡ false → x ≡ false
+or-left true y h = h
+or-left false y h = refl
+
+or-right : (x y : Bool) → (x || y) ≡ false → y ≡ false
+or-right true y h = absurd (false≢true (sym h))
+or-right false y h = h
+
+-- the code's test: SHL, SHR or SAR
+shifting : (g : ℕ) → g < 8 → (ltb g 4 || eqb g 6) ≡ false → Shifting g
+shifting g h t =
+    let f : 4 ≤ g = ltb-false g 4 (or-left (ltb g 4) (eqb g 6) t) in
+    let n : eqb g 6 ≡ false = or-right (ltb g 4) (eqb g 6) t in
+    let e14 : 8 + g ≡ 14 → ⊥ = λ z. false≢true (sym n ∙ eq-eqb g 6 (omega (arith, z))) in
+    let e10 : 8 + g ≡ 10 → ⊥ = λ z. omega (arith, f, z) in
+    let e11 : 8 + g ≡ 11 → ⊥ = λ z. omega (arith, f, z) in
+    let e7 : 8 + g ≡ 7 → ⊥ = λ z. omega (arith, f, z) in
+    let e8 : 8 + g ≡ 8 → ⊥ = λ z. omega (arith, f, z) in
+    let w : 10 ≤ 8 + g = omega (arith, f) in
+    record {
+      low = le-ltb (8 + g) 10 w;
+      inc = ne-eqb (8 + g) 10 e10;
+      dec = ne-eqb (8 + g) 11 e11;
+      imul = ne-eqb (8 + g) 14 e14;
+      writing = rw (ne-eqb (8 + g) 7 e7, ne-eqb (8 + g) 8 e8);
+      back = omega (arith, h);
+    }
 
 -- an operation of two operands is below ten
 under-ten : (x : ℕ) → ltb (x % 8) 10 ≡ true
@@ -100,6 +128,50 @@ module _ (m : Mem) (e : List ℕ) (s : Status) (eip i : ℕ) where
       left-fits v m e s eip i int dir 3 (md / 8 % 8) (numberAt long m (i + upTo m i md)) _ (upTo m i md + cond long 4 1) (under-ten (md / 8))
       (with-modrm v m eip i sh 7 _ _ (record { isClass = h; noOverride = refl; noEscape = refl; built = refl; defined = refl }) refl refl refl (rw l (number-long v m eip i sh long (upTo m i md) (omega (arith, few)))))
       (λ _ _. refl) (first-number v m e s eip i int dir _ _ _) refl (λ a. refl)
+
+  -- ---- shifts and products
+
+  abbrev g : ℕ
+  g = md / 8 % 8
+
+  module _ (by : Shifting g) (built : (ltb g 4 || eqb g 6) ≡ false) where
+    places-193 : b ≡ 0xc1 → FastOk m e s eip i (placesFast m e eip i b md)
+    unfolding familyOf operationIn arithmeticFamily leftFast first second writesOperand compute computeArithmetic doShift classOf readAt
+    places-193 h = working m e s eip i _ refl λ int dir v sh.
+        let few = operand-few m (i + 2) md in
+        let ey : placesAt b m e (i + upTo m i md) ≡ (signed (at m (i + upTo m i md))) = rw h in
+        let en : upTo m i md + cond (eqb b 0xc1) 1 0 ≡ upTo m i md + 1 = rw h (omega arith) in
+        let odd : isOdd b ≡ true = rw h in
+        rw (ey, en) (shift-fits v m e s eip i int dir 5 (signed (at m (i + upTo m i md))) (signed (at m (i + upTo m i md))) (upTo m i md + 1) odd by
+        (with-modrm v m eip i sh 30 (signed (at m (i + upTo m i md))) (upTo m i md + 1) (record { isClass = ap classOf h; noOverride = refl; noEscape = refl; built = refl; defined = refl }) refl refl built (rw h (number-one v m eip i sh (upTo m i md) (omega (arith, few)))))
+        (λ _ _. refl) refl refl (λ a. rw odd))
+
+    places-209 : b ≡ 0xd1 → FastOk m e s eip i (placesFast m e eip i b md)
+    unfolding familyOf operationIn arithmeticFamily leftFast first second writesOperand compute computeArithmetic doShift classOf readAt
+    places-209 h = working m e s eip i _ refl λ int dir v sh.
+        let ey : placesAt b m e (i + upTo m i md) ≡ 1 = rw h in
+        let en : upTo m i md + cond (eqb b 0xc1) 1 0 ≡ upTo m i md = rw h (omega arith) in
+        let odd : isOdd b ≡ true = rw h in
+        rw (ey, en) (shift-fits v m e s eip i int dir 5 1 1 (upTo m i md) odd by
+        (with-modrm v m eip i sh 31 0 (upTo m i md) (record { isClass = ap classOf h; noOverride = refl; noEscape = refl; built = refl; defined = refl }) refl refl built (number-none v m eip i sh (upTo m i md)))
+        (λ _ _. refl) refl refl (λ a. rw odd))
+
+    places-211 : b ≡ 0xd3 → FastOk m e s eip i (placesFast m e eip i b md)
+    unfolding familyOf operationIn arithmeticFamily leftFast first second writesOperand compute computeArithmetic doShift classOf readAt
+    places-211 h = working m e s eip i _ refl λ int dir v sh.
+        let ey : placesAt b m e (i + upTo m i md) ≡ (readAt false (file e) 1) = rw h in
+        let en : upTo m i md + cond (eqb b 0xc1) 1 0 ≡ upTo m i md = rw h (omega arith) in
+        let odd : isOdd b ≡ true = rw h in
+        rw (ey, en) (shift-fits v m e s eip i int dir 6 0 (readAt false (file e) 1) (upTo m i md) odd by
+        (with-modrm v m eip i sh 32 0 (upTo m i md) (record { isClass = ap classOf h; noOverride = refl; noEscape = refl; built = refl; defined = refl }) refl refl built (number-none v m eip i sh (upTo m i md)))
+        (λ _ _. refl) refl refl (λ a. rw odd))
+
+  times-33 : (long : Bool) → classOf b ≡ 33 → longOpcode b ≡ long → FastOk m e s eip i (timesFast m e eip i long md)
+  unfolding familyOf operationIn arithmeticFamily timesFast
+  times-33 long h l = working m e s eip i _ refl λ int dir v sh.
+      let few = operand-few m (i + 2) md in
+      times-fits v m e s eip i int dir (b % 16) _ (upTo m i md + cond long 4 1) long refl refl
+      (with-modrm v m eip i sh 33 _ _ (record { isClass = h; noOverride = refl; noEscape = refl; built = refl; defined = refl }) refl refl refl (rw l (number-long v m eip i sh long (upTo m i md) (omega (arith, few)))))
 
   -- ---- without
 
@@ -240,6 +312,24 @@ module _ (m : Mem) (e : List ℕ) (s : Status) (eip i : ℕ) where
 
     pub taken-number : (n : ℕ) (long : Bool) → b′ ≡ n → classOf n ≡ 7 → longOpcode n ≡ long → p ≡ numberFast m e eip i long b′ md′ → FastOk m e s eip i p
     taken-number n long h c l ep = rw (ep, eb, em) (number-7 long (ap classOf (opcode n h) ∙ c) (ap longOpcode (opcode n h) ∙ l))
+
+    pub taken-places : (eqb b′ 0xc1 || eqb b′ 0xd1 || eqb b′ 0xd3) ≡ true → (ltb (md′ / 8 % 8) 4 || eqb (md′ / 8 % 8) 6) ≡ false → p ≡ placesFast m e eip i b′ md′ → FastOk m e s eip i p
+    taken-places h t ep = at-opcode (eqb b′ 0xc1) refl (eqb b′ 0xd1) refl (eqb b′ 0xd3) refl
+      where
+        built : (ltb (at m (i + 1) / 8 % 8) 4 || eqb (at m (i + 1) / 8 % 8) 6) ≡ false
+        built = rw em at t
+
+        opcode-is : FastOk m e s eip i (placesFast m e eip i (at m i) (at m (i + 1))) → FastOk m e s eip i p
+        opcode-is k = rw (ep, eb, em) k
+
+        at-opcode : (x : Bool) → eqb b′ 0xc1 ≡ x → (y : Bool) → eqb b′ 0xd1 ≡ y → (z : Bool) → eqb b′ 0xd3 ≡ z → FastOk m e s eip i p
+        at-opcode true x y y′ z z′ = let n = eqb-true _ _ x in opcode-is (places-193 (shifting _ (omega arith) built) built (opcode 0xc1 n))
+        at-opcode false x true y z z′ = let n = eqb-true _ _ y in opcode-is (places-209 (shifting _ (omega arith) built) built (opcode 0xd1 n))
+        at-opcode false x false y true z = let n = eqb-true _ _ z in opcode-is (places-211 (shifting _ (omega arith) built) built (opcode 0xd3 n))
+        at-opcode false x false y false z = absurd (false≢true (rw (x, y, z) at h))
+
+    pub taken-times : (n : ℕ) (long : Bool) → b′ ≡ n → classOf n ≡ 33 → longOpcode n ≡ long → p ≡ timesFast m e eip i long md′ → FastOk m e s eip i p
+    taken-times n long h c l ep = rw (ep, em) (times-33 long (ap classOf (opcode n h) ∙ c) (ap longOpcode (opcode n h) ∙ l))
 
     pub taken-near : (n x z : ℕ) → b′ ≡ 235 → n ≡ wrap (eip + 2) → x ≡ signed md′ → z ≡ wrap (n + x) → p ≡ jumpFast z → FastOk m e s eip i p
     taken-near n x z h en ex ez ep = rw (ep, ez, en, ex, em) (jump-235 (opcode 235 h))

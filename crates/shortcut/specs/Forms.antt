@@ -87,6 +87,34 @@ abbrev pub numberFast : Mem → List ℕ → ℕ → ℕ → Bool → ℕ → �
 numberFast mem e eip i long b m =
     leftFast mem e eip i (m / 8 % 8) b m (numberAt long mem (i + upTo mem i m)) (upTo mem i m + cond long 4 1)
 
+-- ---- shifts and IMUL
+
+-- by how many places: C1 by a byte at index j, D1 by one, D3 by CL
+abbrev pub placesAt : ℕ → Mem → List ℕ → ℕ → ℕ
+placesAt b mem e j = cond (eqb b 0xc1) (signed (at mem j)) (cond (eqb b 0xd1) 1 (readAt false (file e) 1))
+
+-- SHL, SHR and SAR by the reg field
+abbrev pub placesFast : Mem → List ℕ → ℕ → ℕ → ℕ → ℕ → Fast
+placesFast mem e eip i b m = leftFast mem e eip i (8 + m / 8 % 8) b m (placesAt b mem e (i + upTo mem i m)) (upTo mem i m + cond (eqb b 0xc1) 1 0)
+
+-- IMUL of the operand by an immediate, into the register in ModRM
+unfoldable pub timesFast : Mem → List ℕ → ℕ → ℕ → Bool → ℕ → Fast
+timesFast mem e eip i long m =
+    record {
+      taken = true;
+      jumps = false;
+      op = 14;
+      wide = true;
+      access = cond (isDirect m) 0 1;
+      at = spotOf mem e i m;
+      x = readAt true (file e) (m % 8);
+      y = numberAt long mem (i + upTo mem i m);
+      to = m / 8 % 8;
+      next = wrap (eip + (upTo mem i m + cond long 4 1));
+    }
+
+-- ---- others
+
 unfoldable pub addressFast : Mem → List ℕ → ℕ → ℕ → ℕ → Fast
 addressFast mem e eip i m =
     record { taken = true; jumps = false; op = 9; wide = true; access = 0; at = 0; x = 0; y = spotOf mem e i m; to = m / 8 % 8; next = wrap (eip + upTo mem i m) }

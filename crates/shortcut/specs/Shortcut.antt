@@ -1,13 +1,16 @@
 -- The common encodings in a short form: what is asked of memory, and what comes of it.
 -- Assumes nothing.
-use Prim.Native.Nat.{ℕ, _+_, _<_}
+use Prim.Native.Nat.{ℕ, _+_, _%_, _<_}
 use mathlib.Core.Path.{_≡_}
-use mathlib.Core.Bool.{Bool, true, cond, _||_}
+use mathlib.Core.Bool.{Bool, true, not, cond, _||_}
 use mathlib.Core.List.{List}
 use lib.Dec.{ltb, eqb}
 use Rattle.alu.specs.declared.Status.{Status}
 use Rattle.alu.specs.declared.Out.{Out}
 use Rattle.alu.specs.Arithmetic.{operate, operateOne}
+use Rattle.shifts.specs.Shifts.{shift}
+use Rattle.products.specs.declared.Product.{Product}
+use Rattle.products.specs.Products.{product}
 use Rattle.machine.specs.declared.Registers.{Registers}
 use Rattle.machine.specs.declared.Core.{Core}
 use Rattle.machine.specs.declared.Reply.the-variants.{Done}
@@ -50,9 +53,16 @@ leftOf p a = cond (asks 1 p || asks 3 p) a (p .x)
 abbrev pub rightOf : Fast → ℕ → ℕ
 rightOf p a = cond (asks 2 p || asks 5 p) a (p .y)
 
--- by number as the operations of two operands have it, up to MOV, 9; 10 is INC, and any other DEC
+abbrev pub lowOut : Product → Out
+lowOut q = record { value = q .low; status = q .status }
+
+-- by number as the operations of two operands have it, up to MOV, 9; 10 is INC, 11 DEC; of dwords alone 14 is IMUL, and 12, 13 and 15 are SHL,
+-- SHR and SAR of x by y places
 unfoldable pub outOf : ℕ → Bool → ℕ → ℕ → Status → Out
-outOf op wide x y s = cond (ltb op 10) (operate op wide x y s) (cond (eqb op 10) (operateOne 0 wide x s) (operateOne 1 wide x s))
+outOf op wide x y s =
+    cond (ltb op 10) (operate op wide x y s)
+    (cond (eqb op 10) (operateOne 0 wide x s)
+    (cond (not wide || eqb op 11) (operateOne 1 wide x s) (cond (eqb op 14) (lowOut (product true true x y s)) (shift (op % 8) true y x s))))
 
 unfoldable pub resultOf : Fast → ℕ → Status → Out
 resultOf p a s = outOf (p .op) (p .wide) (leftOf p a) (rightOf p a) s

@@ -4,12 +4,36 @@ ghost use mathlib.Core.Bool.{Bool, true, false, cond};
 ghost use Prim.Native.Nat.{ℕ, _+_, _*_, _/_, _%_, _<_, _≤_, _^_};
 ghost use lib.ListN.{length, set};
 ghost use Rattle.machine.specs.Record.{writeAt, replaced};
+ghost use Rattle.products.specs.Products.{product};
+ghost use Rattle.shifts.specs.Shifts.{shifted};
 ghost use Rattle.alu.specs.Brief.{statusIn, outIn};
-ghost use Rattle.shortcut.specs.Shortcut.{outOf, resultOf, stacked, depositOf};
+ghost use Rattle.shortcut.specs.Shortcut.{lowOut, outOf, resultOf, stacked, depositOf};
 ghost use Rattle.shortcut.specs.Forms.{file};
 use crate::Fast;
 use alu::brief::Brief;
 use alu::brief::Short;
+
+fn times(x: u32, y: u32, f: Brief) -> Short
+    ensures { λ r. ⌜ outIn r ≡ lowOut (product true true x y (statusIn f)) ⌝ }
+{
+    let q = products::multiply32(true, x, y, f);
+    let flags = q.flags;
+    Short {
+        value: q.low,
+        flags,
+    }
+}
+
+// By n places; none leaves all as it is.
+fn shifted(op: u32, x: u32, n: u32, f: Brief) -> Short
+    requires { ⌜ n < 32 ⌝ }
+    ensures { λ r. ⌜ outIn r ≡ shifted op 32 n x (statusIn f) ⌝ }
+{
+    if n == 0 {
+        return Short { value: x, flags: f };
+    }
+    shifts::shift32(op, n, x, f)
+}
 
 fn dwords(op: u32, x: u32, y: u32, f: Brief) -> Short
     ensures { λ r. ⌜ outIn r ≡ outOf op true x y (statusIn f) ⌝ }
@@ -26,7 +50,9 @@ fn dwords(op: u32, x: u32, y: u32, f: Brief) -> Short
         8 => alu::brief::logic32(x & y, f),
         9 => Short { value: y, flags: f },
         10 => alu::brief::keep_carry(f, alu::brief::add32(x, 1, false)),
-        _ => alu::brief::keep_carry(f, alu::brief::sub32(x, 1, false)),
+        11 => alu::brief::keep_carry(f, alu::brief::sub32(x, 1, false)),
+        14 => times(x, y, f),
+        _ => shifted(op % 8, x, y % 32, f),
     }
 }
 

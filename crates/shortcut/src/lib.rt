@@ -5,7 +5,7 @@ pub mod condition;
 pub mod effect;
 
 ghost use mathlib.Core.Path.{_≡_};
-ghost use mathlib.Core.Bool.{Bool, true, false, cond};
+ghost use mathlib.Core.Bool.{Bool, true, false, cond, _||_};
 ghost use Prim.Native.Nat.{ℕ, _+_, _*_, _/_, _%_, _<_, _≤_, _^_};
 ghost use lib.ListN.{length};
 ghost use lib.Dec.{eqb};
@@ -16,7 +16,7 @@ ghost use Rattle.decode.specs.Decode.{signed};
 ghost use Rattle.alu.specs.declared.Status.{Status};
 ghost use Rattle.alu.specs.Brief.{statusIn};
 ghost use Rattle.shortcut.specs.Shortcut.{FastOk};
-ghost use Rattle.shortcut.specs.Forms.{file, toFast, fromFast, numberFast, addressFast, loadFast, countFast, jumpFast, pushFast, popFast, leftAccess, taking, leftRegister, operationOf};
+ghost use Rattle.shortcut.specs.Forms.{file, toFast, fromFast, numberFast, placesAt, placesFast, timesFast, addressFast, loadFast, countFast, jumpFast, pushFast, popFast, leftAccess, taking, leftRegister, operationOf};
 use alu::brief::Brief;
 
 // An instruction: is it taken; is it a jump and nothing else; the operation (10 INC, 11 DEC, else as for two operands); a dword's or a byte's;
@@ -262,6 +262,74 @@ fn jump_if(s: Brief, eip: u32, b: u32, m: u32) -> Fast
     jump(next)
 }
 
+fn places(mem: &[u8], e: &[u32], j: usize, b: u32) -> u32
+    requires { ⌜ j + 3 < length (now mem) ⌝ }
+    ensures { λ r. ⌜ r ≡ placesAt b (now (mem .entry)) (now (e .entry)) j ⌝ }
+{
+    if b == 0xc1 {
+        return bytes::number(mem, j, false);
+    }
+    if b == 0xd1 {
+        return 1;
+    }
+    bytes::read(e, false, 1)
+}
+
+// A shift of the operand.
+fn by_places(mem: &[u8], e: &[u32], eip: u32, i: usize, b: u32, m: u32) -> Fast
+    requires { ⌜ i + 16 ≤ length (now mem) ⌝ }
+    ensures { λ r. ⌜ r ≡ placesFast (now (mem .entry)) (now (e .entry)) eip i b m ⌝ }
+{
+    let q = bytes::operand(mem, e, i, m);
+    let w = b % 2 == 1;
+    let op = 8 + m / 8 % 8;
+    let y = places(mem, e, i + q.upto as usize, b);
+    Fast {
+        taken: true,
+        jumps: false,
+        op,
+        wide: w,
+        access: left_access(m, op),
+        at: q.at,
+        x: bytes::read(e, w, m % 8),
+        y,
+        to: left_register(m, op),
+        next: std::num::wrapping_add_u32(eip, q.upto + either(b == 0xc1, 1, 0)),
+    }
+}
+
+// IMUL by an immediate.
+fn times_number(mem: &[u8], e: &[u32], eip: u32, i: usize, long: bool, m: u32) -> Fast
+    requires { ⌜ i + 16 ≤ length (now mem) ⌝ }
+    ensures { λ r. ⌜ r ≡ timesFast (now (mem .entry)) (now (e .entry)) eip i long m ⌝ }
+{
+    let q = bytes::operand(mem, e, i, m);
+    Fast {
+        taken: true,
+        jumps: false,
+        op: 14,
+        wide: true,
+        access: either(192 <= m, 0, 1),
+        at: q.at,
+        x: bytes::read(e, true, m % 8),
+        y: bytes::number(mem, i + q.upto as usize, long),
+        to: m / 8 % 8,
+        next: std::num::wrapping_add_u32(eip, q.upto + either(long, 4, 1)),
+    }
+}
+
+// SHL, SHR and SAR; the other shifts are not built.
+fn shift(mem: &[u8], e: &[u32], eip: u32, i: usize, b: u32, m: u32) -> Fast
+    requires { ⌜ (i + 16 ≤ length (now mem)) × ((b ≡ at (now mem) i) × ((m ≡ at (now mem) (i + 1)) × ((eqb b 0xc1 || eqb b 0xd1 || eqb b 0xd3) ≡ true))) ⌝ }
+    ensures { λ r. ⌜ ((s : Status) → FastOk (now (mem .entry)) (now (e .entry)) s eip i r) ⌝ }
+{
+    let g = m / 8 % 8;
+    if (g < 4) | (g == 6) {
+        return none();
+    }
+    by_places(mem, e, eip, i, b, m)
+}
+
 // The operation of a class: ADD to CMP by the opcode, TEST, MOV.
 fn operation(c: u32, b: u32) -> u32
     ensures { λ r. ⌜ r ≡ operationOf c b ⌝ }
@@ -281,9 +349,14 @@ fn by_opcode(mem: &[u8], e: &[u32], eip: u32, i: usize, b: u32, m: u32) -> Fast
     ensures { λ r. ⌜ ((s : Status) → FastOk (now (mem .entry)) (now (e .entry)) s eip i r) ⌝ }
 {
     match b {
+        105 => times_number(mem, e, eip, i, true, m),
+        107 => times_number(mem, e, eip, i, false, m),
         128 => by_number(mem, e, eip, i, false, b, m),
         129 => by_number(mem, e, eip, i, true, b, m),
         131 => by_number(mem, e, eip, i, false, b, m),
+        0xc1 => shift(mem, e, eip, i, b, m),
+        0xd1 => shift(mem, e, eip, i, b, m),
+        0xd3 => shift(mem, e, eip, i, b, m),
         232 => {
             let next = std::num::wrapping_add_u32(eip, 5);
             push(

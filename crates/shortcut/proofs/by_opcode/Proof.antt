@@ -1,10 +1,16 @@
-use Rattle.encoding.specs.Encodings.{classOf}
 use mathlib.Core.Bool.{true, false}
-use Rattle.shortcut.proofs.Taken.{not-taken, taken-number, taken-near, taken-far, taken-call}
+use Rattle.encoding.specs.Encodings.{classOf}
+use Rattle.shortcut.proofs.Taken.{not-taken, taken-number, taken-times, taken-near, taken-far, taken-call}
 use borrow.Author.Needs.{needs}
 use mathlib.Core.Path.{refl}
 use Rattle.shortcut.proofs.by_opcode.Statement.{statement}
 use Rattle.shortcut.proofs.by_opcode.Tie as tie
+
+times-number-requires : tie.Need-times-number-requires
+times-number-requires c κs = search needs
+
+times-number-requires-2 : tie.Need-times-number-requires-2
+times-number-requires-2 c κs = search needs
 
 by-number-requires : tie.Need-by-number-requires
 by-number-requires c κs = search needs
@@ -14,6 +20,15 @@ by-number-requires-2 c κs = search needs
 
 by-number-requires-3 : tie.Need-by-number-requires-3
 by-number-requires-3 c κs = search needs
+
+shift-requires : tie.Need-shift-requires
+shift-requires c κs = (((c .before .before .before .pre .0)), (((c .before .before .before .pre .1 .0)), (((c .before .before .before .pre .1 .1 .0)), rw ((c .match .keys6)))))
+
+shift-requires-2 : tie.Need-shift-requires-2
+shift-requires-2 c κs = (((c .before .before .before .pre .0)), (((c .before .before .before .pre .1 .0)), (((c .before .before .before .pre .1 .1 .0)), rw ((c .match .keys7)))))
+
+shift-requires-3 : tie.Need-shift-requires-3
+shift-requires-3 c κs = (((c .before .before .before .pre .0)), (((c .before .before .before .pre .1 .0)), (((c .before .before .before .pre .1 .1 .0)), rw ((c .match .keys8)))))
 
 wrapping-add-u32-requires : tie.Need-wrapping-add-u32-requires
 wrapping-add-u32-requires c κs = search needs
@@ -62,35 +77,57 @@ none-requires c κs = search needs
 
 returns : tie.Need-returns
 unfolding classOf
-returns c = λ s. taken-number (c .before .before .before .before .args .mem .now) (c .before .before .before .before .args .e .now) s (c .before .before .before .before .args .eip) (c .before .before .before .before .args .i) _ _ (c .before .before .before .before .pre .1 .0) (c .before .before .before .before .pre .1 .1 .0) _ 128 false (c .before .match .keys1) refl refl (c .by-number .ensures)
+returns c = λ s. taken-times ((c .before .before .before .before .args .mem .now)) ((c .before .before .before .before .args .e .now)) s ((c .before .before .before .before .args .eip)) ((c .before .before .before .before .args .i)) _ _ ((c .before .before .before .before .pre .1 .0)) ((c .before .before .before .before .pre .1 .1 .0)) _ 105 true ((c .before .match .keys1)) refl refl ((c .times-number .ensures))
 
 returns-2 : tie.Need-returns-2
 unfolding classOf
-returns-2 c = λ s. taken-number (c .before .before .before .before .args .mem .now) (c .before .before .before .before .args .e .now) s (c .before .before .before .before .args .eip) (c .before .before .before .before .args .i) _ _ (c .before .before .before .before .pre .1 .0) (c .before .before .before .before .pre .1 .1 .0) _ 129 true (c .before .match .keys2) refl refl (c .by-number2 .ensures)
+returns-2 c = λ s. taken-times ((c .before .before .before .before .args .mem .now)) ((c .before .before .before .before .args .e .now)) s ((c .before .before .before .before .args .eip)) ((c .before .before .before .before .args .i)) _ _ ((c .before .before .before .before .pre .1 .0)) ((c .before .before .before .before .pre .1 .1 .0)) _ 107 false ((c .before .match .keys2)) refl refl ((c .times-number2 .ensures))
 
 returns-3 : tie.Need-returns-3
 unfolding classOf
-returns-3 c = λ s. taken-number (c .before .before .before .before .args .mem .now) (c .before .before .before .before .args .e .now) s (c .before .before .before .before .args .eip) (c .before .before .before .before .args .i) _ _ (c .before .before .before .before .pre .1 .0) (c .before .before .before .before .pre .1 .1 .0) _ 131 false (c .before .match .keys3) refl refl (c .by-number3 .ensures)
+returns-3 c = λ s. taken-number ((c .before .before .before .before .args .mem .now)) ((c .before .before .before .before .args .e .now)) s ((c .before .before .before .before .args .eip)) ((c .before .before .before .before .args .i)) _ _ ((c .before .before .before .before .pre .1 .0)) ((c .before .before .before .before .pre .1 .1 .0)) _ 128 false ((c .before .match .keys3)) refl refl ((c .by-number .ensures))
 
 returns-4 : tie.Need-returns-4
-returns-4 c = λ s. taken-call (c .before .before .before .before .before .before .before .args .mem .now) (c .before .before .before .before .before .before .before .args .e .now) s (c .before .before .before .before .before .before .before .args .eip) (c .before .before .before .before .before .before .before .args .i) _ _ (c .before .before .before .before .before .before .before .pre .1 .0) (c .before .before .before .before .before .before .before .pre .1 .1 .0) _ _ _ _ (c .before .before .before .before .match .keys4) (c .before .before .before .wrapping-add-u32 .ensures) (c .before .before .dword .ensures) (c .before .wrapping-add-u322 .ensures) (c .push .ensures)
+unfolding classOf
+returns-4 c = λ s. taken-number ((c .before .before .before .before .args .mem .now)) ((c .before .before .before .before .args .e .now)) s ((c .before .before .before .before .args .eip)) ((c .before .before .before .before .args .i)) _ _ ((c .before .before .before .before .pre .1 .0)) ((c .before .before .before .before .pre .1 .1 .0)) _ 129 true ((c .before .match .keys4)) refl refl ((c .by-number2 .ensures))
 
 returns-5 : tie.Need-returns-5
-returns-5 c = λ s. taken-far (c .before .before .before .before .before .before .before .args .mem .now) (c .before .before .before .before .before .before .before .args .e .now) s (c .before .before .before .before .before .before .before .args .eip) (c .before .before .before .before .before .before .before .args .i) _ _ (c .before .before .before .before .before .before .before .pre .1 .0) (c .before .before .before .before .before .before .before .pre .1 .1 .0) _ _ _ _ (c .before .before .before .before .match .keys5) (c .before .before .before .wrapping-add-u323 .ensures) (c .before .before .dword2 .ensures) (c .before .wrapping-add-u324 .ensures) (c .jump .ensures)
+unfolding classOf
+returns-5 c = λ s. taken-number ((c .before .before .before .before .args .mem .now)) ((c .before .before .before .before .args .e .now)) s ((c .before .before .before .before .args .eip)) ((c .before .before .before .before .args .i)) _ _ ((c .before .before .before .before .pre .1 .0)) ((c .before .before .before .before .pre .1 .1 .0)) _ 131 false ((c .before .match .keys5)) refl refl ((c .by-number3 .ensures))
 
 returns-6 : tie.Need-returns-6
-returns-6 c = λ s. taken-near (c .before .before .before .before .before .before .before .args .mem .now) (c .before .before .before .before .before .before .before .args .e .now) s (c .before .before .before .before .before .before .before .args .eip) (c .before .before .before .before .before .before .before .args .i) _ _ (c .before .before .before .before .before .before .before .pre .1 .0) (c .before .before .before .before .before .before .before .pre .1 .1 .0) _ _ _ _ (c .before .before .before .before .match .keys6) (c .before .before .before .wrapping-add-u325 .ensures) (c .before .before .extend .ensures) (c .before .wrapping-add-u326 .ensures) (c .jump2 .ensures)
+returns-6 c = search needs
 
 returns-7 : tie.Need-returns-7
-returns-7 c = λ s. not-taken (c .before .before .before .before .args .mem .now) (c .before .before .before .before .args .e .now) s (c .before .before .before .before .args .eip) (c .before .before .before .before .args .i) _ (c .none .ensures)
+returns-7 c = search needs
+
+returns-8 : tie.Need-returns-8
+returns-8 c = search needs
+
+returns-9 : tie.Need-returns-9
+returns-9 c = λ s. taken-call ((c .before .before .before .before .before .before .before .args .mem .now)) ((c .before .before .before .before .before .before .before .args .e .now)) s ((c .before .before .before .before .before .before .before .args .eip)) ((c .before .before .before .before .before .before .before .args .i)) _ _ ((c .before .before .before .before .before .before .before .pre .1 .0)) ((c .before .before .before .before .before .before .before .pre .1 .1 .0)) _ _ _ _ ((c .before .before .before .before .match .keys9)) ((c .before .before .before .wrapping-add-u32 .ensures)) ((c .before .before .dword .ensures)) ((c .before .wrapping-add-u322 .ensures)) ((c .push .ensures))
+
+returns-10 : tie.Need-returns-10
+returns-10 c = λ s. taken-far ((c .before .before .before .before .before .before .before .args .mem .now)) ((c .before .before .before .before .before .before .before .args .e .now)) s ((c .before .before .before .before .before .before .before .args .eip)) ((c .before .before .before .before .before .before .before .args .i)) _ _ ((c .before .before .before .before .before .before .before .pre .1 .0)) ((c .before .before .before .before .before .before .before .pre .1 .1 .0)) _ _ _ _ ((c .before .before .before .before .match .keys10)) ((c .before .before .before .wrapping-add-u323 .ensures)) ((c .before .before .dword2 .ensures)) ((c .before .wrapping-add-u324 .ensures)) ((c .jump .ensures))
+
+returns-11 : tie.Need-returns-11
+returns-11 c = λ s. taken-near ((c .before .before .before .before .before .before .before .args .mem .now)) ((c .before .before .before .before .before .before .before .args .e .now)) s ((c .before .before .before .before .before .before .before .args .eip)) ((c .before .before .before .before .before .before .before .args .i)) _ _ ((c .before .before .before .before .before .before .before .pre .1 .0)) ((c .before .before .before .before .before .before .before .pre .1 .1 .0)) _ _ _ _ ((c .before .before .before .before .match .keys11)) ((c .before .before .before .wrapping-add-u325 .ensures)) ((c .before .before .extend .ensures)) ((c .before .wrapping-add-u326 .ensures)) ((c .jump2 .ensures))
+
+returns-12 : tie.Need-returns-12
+returns-12 c = λ s. not-taken ((c .before .before .before .before .args .mem .now)) ((c .before .before .before .before .args .e .now)) s ((c .before .before .before .before .args .eip)) ((c .before .before .before .before .args .i)) _ ((c .none .ensures))
 
 pub by-opcode-spec : {M : Type 1} → statement M
 by-opcode-spec =
     tie.close
     (tie.spec
+    times-number-requires
+    times-number-requires-2
     by-number-requires
     by-number-requires-2
     by-number-requires-3
+    shift-requires
+    shift-requires-2
+    shift-requires-3
     wrapping-add-u32-requires
     add-dword
     dword-requires
@@ -112,4 +149,9 @@ by-opcode-spec =
     returns-4
     returns-5
     returns-6
-    returns-7)
+    returns-7
+    returns-8
+    returns-9
+    returns-10
+    returns-11
+    returns-12)

@@ -1,7 +1,7 @@
 use Rattle.alu.specs.Brief.{statusIn}
 use Rattle.alu.specs.Arithmetic.{operation}
 use Rattle.alu.proofs.Operations.{no-number, carryKept}
-use Rattle.shortcut.proofs.Effects.{past-ten, numbered, counted-up, counted-down}
+use Rattle.shortcut.proofs.Effects.{past-ten, numbered, counted-up, counted-down, multiplied, moved-by}
 use borrow.Author.Needs.{needs}
 use borrow.Author.Tests.{ne-eqb}
 use mathlib.Core.Path.{refl, ap, _∙_}
@@ -47,6 +47,12 @@ sub32-requires-4 c κs = search needs
 keep-carry-requires-2 : tie.Need-keep-carry-requires-2
 keep-carry-requires-2 c κs = search needs
 
+times-requires : tie.Need-times-requires
+times-requires c κs = search needs
+
+shifted-requires : tie.Need-shifted-requires
+shifted-requires c κs = search needs
+
 returns : tie.Need-returns
 unfolding operation
 returns c = numbered _ _ _ ((c .before .before .fits .x)) ((c .before .before .fits .y)) ((c .before .match .keys1)) refl ((c .add32 .ensures))
@@ -91,7 +97,13 @@ returns-11 : tie.Need-returns-11
 returns-11 c = counted-up _ _ _ ((c .before .before .before .fits .x)) ((c .before .before .match .keys11)) (((c .keep-carry .ensures)) ∙ ap (carryKept (statusIn ((c .before .before .before .args .f)))) ((c .before .add323 .ensures)))
 
 returns-12 : tie.Need-returns-12
-returns-12 c = counted-down _ _ _ ((c .before .before .before .fits .x)) _ (past-ten _ (no-number _ ((c .before .before .match .rest .0 .0))) ((c .before .before .match .rest .0 .1))) (ne-eqb _ _ ((c .before .before .match .rest .1))) (((c .keep-carry2 .ensures)) ∙ ap (carryKept (statusIn ((c .before .before .before .args .f)))) ((c .before .sub324 .ensures)))
+returns-12 c = counted-down _ _ _ ((c .before .before .before .fits .x)) ((c .before .before .match .keys12)) (((c .keep-carry2 .ensures)) ∙ ap (carryKept (statusIn ((c .before .before .before .args .f)))) ((c .before .sub324 .ensures)))
+
+returns-13 : tie.Need-returns-13
+returns-13 c = multiplied _ _ _ ((c .before .before .fits .x)) ((c .before .match .keys13)) ((c .times .ensures))
+
+returns-14 : tie.Need-returns-14
+returns-14 c = moved-by _ _ _ ((c .before .before .fits .x)) _ (past-ten _ (no-number _ ((c .before .match .rest .0 .0 .0 .0))) ((c .before .match .rest .0 .0 .0 .1))) (ne-eqb _ _ ((c .before .match .rest .0 .0 .1))) (ne-eqb _ _ ((c .before .match .rest .0 .1))) (ne-eqb _ _ ((c .before .match .rest .1))) ((c .shifted .ensures))
 
 pub dwords-spec : {M : Type 1} → statement M
 dwords-spec =
@@ -110,6 +122,8 @@ dwords-spec =
     keep-carry-requires
     sub32-requires-4
     keep-carry-requires-2
+    times-requires
+    shifted-requires
     returns
     returns-2
     returns-3
@@ -121,4 +135,6 @@ dwords-spec =
     returns-9
     returns-10
     returns-11
-    returns-12)
+    returns-12
+    returns-13
+    returns-14)
