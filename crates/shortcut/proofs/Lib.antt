@@ -3,6 +3,7 @@ pub mod Spots
 pub mod Decoded
 pub mod Fitting
 pub mod Singles
+mod Doubling
 pub mod Taken
 pub mod Conditions
 pub mod Effects

@@ -2,11 +2,11 @@
 -- Assumes nothing.
 use Prim.Native.Nat.{ℕ, _+_, _/_, _%_, _<_, _≤_}
 use mathlib.Core.Path.{_≡_, refl, sym, subst, ap, _∙_}
-use mathlib.Core.Bool.{Bool, true, false, cond, _||_, false≢true, not}
+use mathlib.Core.Bool.{_&&_, Bool, true, false, cond, _||_, false≢true, not}
 use mathlib.Core.List.{List}
 use native.Mathlib.Omega.{arith}
 use borrow.Author.Tests.{lt-ltb, le-ltb, lt-leb, eq-eqb, ne-eqb, eqb-true, ltb-false, not-false}
-use lib.Dec.{ltb, eqb}
+use lib.Dec.{ltb, leb, eqb}
 use Rattle.alu.specs.declared.Status.{Status}
 use Rattle.conditions.specs.Conditions.{holds}
 use Rattle.machine.specs.Record.{Mem, at, wrap, register, readAt}
@@ -20,26 +20,35 @@ use Rattle.execute.specs.Execute.{first, second, writesOperand, computeArithmet
 use Rattle.arithmetic.specs.Arithmetic.{doCombineTo, doCombineImmediate, doShift}
 use Rattle.shortcut.specs.declared.Fast.{Fast}
 use Rattle.shortcut.specs.Bytes.{Shows}
-use Rattle.shortcut.specs.Forms.{file, isDirect, upTo, numberAt, operationOf, placesAt, placesFast, timesFast, leftFast, toFast, fromFast, numberFast, addressFast, loadFast, countFast, jumpFast, pushFast, popFast, isOdd}
+use Rattle.shortcut.specs.Forms.{file, isDirect, upTo, numberAt, operationOf, placesAt, placesFast, timesFast, doubleFast, leftFast, toFast, fromFast, numberFast, addressFast, loadFast, countFast, jumpFast, pushFast, popFast, isOdd}
 use Rattle.shortcut.specs.Shortcut.{Fits, coreFrom, Idle, FastOk}
 use Rattle.shortcut.proofs.Small.{operand-few}
 use Rattle.shortcut.proofs.Decoded.{number-none, number-one, number-four, number-long, with-modrm, without-modrm}
 use Rattle.shortcut.proofs.Fitting.{left-fits, first-to, first-number, from-fits, address-fits, Shifting, shift-fits, times-fits}
+use Rattle.shortcut.proofs.Doubling.{double-fits}
 use Rattle.shortcut.proofs.Singles.{naming, load-fits, inc-fits, dec-fits, jump-fits, jump-on, jump-off, push-fits, call-fits, pop-fits, return-fits}
 
-pub not-taken : (m : Mem) (e : List ℕ) (s : Status) (eip i : ℕ) (p : Fast) → (p .taken ≡ false) × (p .jumps ≡ false) → FastOk m e s eip i p
-not-taken m e s eip i p h = record { fits = λ t. absurd (false≢true (sym (h .0) ∙ t)); idle = λ t. absurd (false≢true (sym (h .1) ∙ t)) }
+pub not-taken : (m : Mem) (e : List ℕ) (s : Status) (eip i : ℕ) (p : Fast) → (p .taken ≡ false) × ((p .jumps ≡ false) × (p .doubling ≡ false)) → FastOk m e s eip i p
+not-taken m e s eip i p h = record { fits = λ t. absurd (false≢true (sym (h .0) ∙ t)); idle = λ t. absurd (false≢true (sym (h .1 .0) ∙ t)); doubles = λ t. absurd (false≢true (sym (h .1 .1) ∙ t)) }
 
 -- what fits and is no jump; and a jump that fits
 module _ (m : Mem) (e : List ℕ) (s : Status) (eip i : ℕ) (p : Fast) where
   abbrev Fitting : Type 0
   Fitting = (int dir : Bool) (v : View) → Shows v m eip i → Fits v (coreFrom e eip s int dir) p
 
-  working : p .jumps ≡ false → Fitting → FastOk m e s eip i p
-  working h f = record { fits = λ _. f; idle = λ t. absurd (false≢true (sym h ∙ t)) }
+  working : (p .jumps ≡ false) × (p .doubling ≡ false) → Fitting → FastOk m e s eip i p
+  working h f = record { fits = λ _. f; idle = λ t. absurd (false≢true (sym (h .0) ∙ t)); doubles = λ t. absurd (false≢true (sym (h .1) ∙ t)) }
 
-  jumping : Idle p → Fitting → FastOk m e s eip i p
-  jumping h f = record { fits = λ _. f; idle = λ _. h }
+  jumping : Idle p → p .doubling ≡ false → Fitting → FastOk m e s eip i p
+  jumping h n f = record { fits = λ _. f; idle = λ _. h; doubles = λ t. absurd (false≢true (sym n ∙ t)) }
+
+and-left : (x y : Bool) → (x && y) ≡ true → x ≡ true
+and-left true y h = refl
+and-left false y h = h
+
+and-right : (x y : Bool) → (x && y) ≡ true → y ≡ true
+and-right true y h = h
+and-right false y h = absurd (false≢true h)
 
 or-left : (x y : Bool) → (x || y) ≡ false → x ≡ false
 or-left true y h = h
@@ -84,46 +93,46 @@ module _ (m : Mem) (e : List ℕ) (s : Status) (eip i : ℕ) where
 
   to-4 : classOf b ≡ 4 → FastOk m e s eip i (toFast m e eip i (b / 8 % 8) b md)
   unfolding familyOf operationIn second compute computeArithmetic doCombineTo leftFast
-  to-4 h = working m e s eip i _ refl λ int dir v sh.
+  to-4 h = working m e s eip i _ (refl, refl) λ int dir v sh.
       left-fits v m e s eip i int dir 1 (b / 8 % 8) 0 _ (upTo m i md) (under-ten (b / 8))
       (with-modrm v m eip i sh 4 0 _ (record { isClass = h; noOverride = refl; noEscape = refl; built = refl; defined = refl }) refl refl refl (number-none v m eip i sh _))
       (λ _ _. refl) (first-to v m e s eip i int dir _ _ _) refl (λ a. refl)
 
   to-8 : classOf b ≡ 8 → FastOk m e s eip i (toFast m e eip i 8 b md)
   unfolding familyOf operationIn second compute computeArithmetic doCombineTo leftFast
-  to-8 h = working m e s eip i _ refl λ int dir v sh.
+  to-8 h = working m e s eip i _ (refl, refl) λ int dir v sh.
       left-fits v m e s eip i int dir 1 8 0 _ (upTo m i md) refl
       (with-modrm v m eip i sh 8 0 _ (record { isClass = h; noOverride = refl; noEscape = refl; built = refl; defined = refl }) refl refl refl (number-none v m eip i sh _))
       (λ _ _. refl) (first-to v m e s eip i int dir _ _ _) refl (λ a. refl)
 
   to-11 : classOf b ≡ 11 → FastOk m e s eip i (toFast m e eip i 9 b md)
   unfolding familyOf operationIn second compute computeArithmetic doCombineTo leftFast
-  to-11 h = working m e s eip i _ refl λ int dir v sh.
+  to-11 h = working m e s eip i _ (refl, refl) λ int dir v sh.
       left-fits v m e s eip i int dir 1 9 0 _ (upTo m i md) refl
       (with-modrm v m eip i sh 11 0 _ (record { isClass = h; noOverride = refl; noEscape = refl; built = refl; defined = refl }) refl refl refl (number-none v m eip i sh _))
       (λ _ _. refl) (first-to v m e s eip i int dir _ _ _) refl (λ a. refl)
 
   from-5 : classOf b ≡ 5 → FastOk m e s eip i (fromFast m e eip i (b / 8 % 8) b md)
   unfolding familyOf operationIn fromFast
-  from-5 h = working m e s eip i _ refl λ int dir v sh.
+  from-5 h = working m e s eip i _ (refl, refl) λ int dir v sh.
       from-fits v m e s eip i int dir (b / 8 % 8) 0 _ (under-ten (b / 8)) refl
       (with-modrm v m eip i sh 5 0 _ (record { isClass = h; noOverride = refl; noEscape = refl; built = refl; defined = refl }) refl refl refl (number-none v m eip i sh _))
 
   from-12 : classOf b ≡ 12 → FastOk m e s eip i (fromFast m e eip i 9 b md)
   unfolding familyOf operationIn fromFast
-  from-12 h = working m e s eip i _ refl λ int dir v sh.
+  from-12 h = working m e s eip i _ (refl, refl) λ int dir v sh.
       from-fits v m e s eip i int dir 9 0 _ refl refl
       (with-modrm v m eip i sh 12 0 _ (record { isClass = h; noOverride = refl; noEscape = refl; built = refl; defined = refl }) refl refl refl (number-none v m eip i sh _))
 
   address-19 : classOf b ≡ 19 → isDirect md ≡ false → FastOk m e s eip i (addressFast m e eip i md)
   unfolding familyOf operationIn arithmeticFamily moveFamily addressFast
-  address-19 h mem = working m e s eip i _ refl λ int dir v sh.
+  address-19 h mem = working m e s eip i _ (refl, refl) λ int dir v sh.
       address-fits v m e s eip i int dir (b % 16) 0 _ refl mem
       (with-modrm v m eip i sh 19 0 _ (record { isClass = h; noOverride = refl; noEscape = refl; built = refl; defined = refl }) refl (rw mem) refl (number-none v m eip i sh _))
 
   number-7 : (long : Bool) → classOf b ≡ 7 → longOpcode b ≡ long → FastOk m e s eip i (numberFast m e eip i long b md)
   unfolding familyOf operationIn second compute computeArithmetic doCombineImmediate leftFast
-  number-7 long h l = working m e s eip i _ refl λ int dir v sh.
+  number-7 long h l = working m e s eip i _ (refl, refl) λ int dir v sh.
       let few = operand-few m (i + 2) md in
       left-fits v m e s eip i int dir 3 (md / 8 % 8) (numberAt long m (i + upTo m i md)) _ (upTo m i md + cond long 4 1) (under-ten (md / 8))
       (with-modrm v m eip i sh 7 _ _ (record { isClass = h; noOverride = refl; noEscape = refl; built = refl; defined = refl }) refl refl refl (rw l (number-long v m eip i sh long (upTo m i md) (omega (arith, few)))))
@@ -137,7 +146,7 @@ module _ (m : Mem) (e : List ℕ) (s : Status) (eip i : ℕ) where
   module _ (by : Shifting g) (built : (ltb g 4 || eqb g 6) ≡ false) where
     places-193 : b ≡ 0xc1 → FastOk m e s eip i (placesFast m e eip i b md)
     unfolding familyOf operationIn arithmeticFamily leftFast first second writesOperand compute computeArithmetic doShift classOf readAt
-    places-193 h = working m e s eip i _ refl λ int dir v sh.
+    places-193 h = working m e s eip i _ (refl, refl) λ int dir v sh.
         let few = operand-few m (i + 2) md in
         let ey : placesAt b m e (i + upTo m i md) ≡ (signed (at m (i + upTo m i md))) = rw h in
         let en : upTo m i md + cond (eqb b 0xc1) 1 0 ≡ upTo m i md + 1 = rw h (omega arith) in
@@ -148,7 +157,7 @@ module _ (m : Mem) (e : List ℕ) (s : Status) (eip i : ℕ) where
 
     places-209 : b ≡ 0xd1 → FastOk m e s eip i (placesFast m e eip i b md)
     unfolding familyOf operationIn arithmeticFamily leftFast first second writesOperand compute computeArithmetic doShift classOf readAt
-    places-209 h = working m e s eip i _ refl λ int dir v sh.
+    places-209 h = working m e s eip i _ (refl, refl) λ int dir v sh.
         let ey : placesAt b m e (i + upTo m i md) ≡ 1 = rw h in
         let en : upTo m i md + cond (eqb b 0xc1) 1 0 ≡ upTo m i md = rw h (omega arith) in
         let odd : isOdd b ≡ true = rw h in
@@ -158,7 +167,7 @@ module _ (m : Mem) (e : List ℕ) (s : Status) (eip i : ℕ) where
 
     places-211 : b ≡ 0xd3 → FastOk m e s eip i (placesFast m e eip i b md)
     unfolding familyOf operationIn arithmeticFamily leftFast first second writesOperand compute computeArithmetic doShift classOf readAt
-    places-211 h = working m e s eip i _ refl λ int dir v sh.
+    places-211 h = working m e s eip i _ (refl, refl) λ int dir v sh.
         let ey : placesAt b m e (i + upTo m i md) ≡ (readAt false (file e) 1) = rw h in
         let en : upTo m i md + cond (eqb b 0xc1) 1 0 ≡ upTo m i md = rw h (omega arith) in
         let odd : isOdd b ≡ true = rw h in
@@ -168,46 +177,54 @@ module _ (m : Mem) (e : List ℕ) (s : Status) (eip i : ℕ) where
 
   times-33 : (long : Bool) → classOf b ≡ 33 → longOpcode b ≡ long → FastOk m e s eip i (timesFast m e eip i long md)
   unfolding familyOf operationIn arithmeticFamily timesFast
-  times-33 long h l = working m e s eip i _ refl λ int dir v sh.
+  times-33 long h l = working m e s eip i _ (refl, refl) λ int dir v sh.
       let few = operand-few m (i + 2) md in
       times-fits v m e s eip i int dir (b % 16) _ (upTo m i md + cond long 4 1) long refl refl
       (with-modrm v m eip i sh 33 _ _ (record { isClass = h; noOverride = refl; noEscape = refl; built = refl; defined = refl }) refl refl refl (rw l (number-long v m eip i sh long (upTo m i md) (omega (arith, few)))))
+
+  double-247 : b ≡ 0xf7 → isDirect md ≡ true → g ≡ 4 → FastOk m e s eip i (doubleFast e eip md)
+  unfolding classOf doubleFast
+  double-247 h d r = record {
+    fits = λ t. absurd (false≢true t);
+    idle = λ t. absurd (false≢true t);
+    doubles = λ _. (refl, λ int dir v sh. double-fits v m e s eip i int dir (ap classOf h) (rw h) d r sh);
+  }
 
   -- ---- without
 
   load-15 : classOf b ≡ 15 → FastOk m e s eip i (loadFast m eip i b)
   unfolding familyOf operationIn loadFast
-  load-15 h = working m e s eip i _ refl λ int dir v sh.
+  load-15 h = working m e s eip i _ (refl, refl) λ int dir v sh.
       load-fits v m e s eip i int dir
       (without-modrm v m eip i sh 15 _ _ (record { isClass = h; noOverride = refl; noEscape = refl; built = refl; defined = refl }) refl refl (number-long v m eip i sh (eqb (b / 8 % 2) 1) 1 (omega arith)))
 
   inc-22 : classOf b ≡ 22 → FastOk m e s eip i (countFast e eip 10 b)
   unfolding familyOf operationIn countFast
-  inc-22 h = working m e s eip i _ refl λ int dir v sh.
+  inc-22 h = working m e s eip i _ (refl, refl) λ int dir v sh.
       inc-fits v m e s eip i int dir 0
       (without-modrm v m eip i sh 22 0 1 (record { isClass = h; noOverride = refl; noEscape = refl; built = refl; defined = refl }) refl refl (number-none v m eip i sh 1))
 
   dec-23 : classOf b ≡ 23 → FastOk m e s eip i (countFast e eip 11 b)
   unfolding familyOf operationIn countFast
-  dec-23 h = working m e s eip i _ refl λ int dir v sh.
+  dec-23 h = working m e s eip i _ (refl, refl) λ int dir v sh.
       dec-fits v m e s eip i int dir 0
       (without-modrm v m eip i sh 23 0 1 (record { isClass = h; noOverride = refl; noEscape = refl; built = refl; defined = refl }) refl refl (number-none v m eip i sh 1))
 
   push-26 : classOf b ≡ 26 → register (file e) (b % 8) < 4294967296 → FastOk m e s eip i (pushFast e (register (file e) (b % 8)) (wrap (eip + 1)))
   unfolding familyOf operationIn arithmeticFamily moveFamily pushFast
-  push-26 h y = working m e s eip i _ refl λ int dir v sh.
+  push-26 h y = working m e s eip i _ (refl, refl) λ int dir v sh.
       push-fits v m e s eip i int dir (b % 16) (b % 8) 0 1 y
       (without-modrm v m eip i sh 26 0 1 (record { isClass = h; noOverride = refl; noEscape = refl; built = refl; defined = refl }) refl refl (number-none v m eip i sh 1))
 
   pop-28 : classOf b ≡ 28 → FastOk m e s eip i (popFast e 5 (b % 8) (wrap (eip + 1)))
   unfolding familyOf operationIn arithmeticFamily moveFamily popFast
-  pop-28 h = working m e s eip i _ refl λ int dir v sh.
+  pop-28 h = working m e s eip i _ (refl, refl) λ int dir v sh.
       pop-fits v m e s eip i int dir (b % 16) 0 1
       (without-modrm v m eip i sh 28 0 1 (record { isClass = h; noOverride = refl; noEscape = refl; built = refl; defined = refl }) refl refl (number-none v m eip i sh 1))
 
   return-41 : classOf b ≡ 41 → FastOk m e s eip i (popFast e 6 8 (wrap (eip + 1)))
   unfolding familyOf operationIn arithmeticFamily moveFamily flowFamily popFast
-  return-41 h = working m e s eip i _ refl λ int dir v sh.
+  return-41 h = working m e s eip i _ (refl, refl) λ int dir v sh.
       return-fits v m e s eip i int dir (b % 16) 0 1
       (without-modrm v m eip i sh 41 0 1 (record { isClass = h; noOverride = refl; noEscape = refl; built = refl; defined = refl }) refl refl (number-none v m eip i sh 1))
 
@@ -215,7 +232,7 @@ module _ (m : Mem) (e : List ℕ) (s : Status) (eip i : ℕ) where
 
   jump-36 : classOf b ≡ 36 → longOpcode b ≡ false → FastOk m e s eip i (jumpFast (cond (holds (b % 16) s) (wrap (wrap (eip + 2) + signed md)) (wrap (eip + 2))))
   unfolding familyOf operationIn arithmeticFamily moveFamily flowFamily jumpFast
-  jump-36 h l = jumping m e s eip i _ (refl, (refl, refl)) λ int dir v sh.
+  jump-36 h l = jumping m e s eip i _ (refl, (refl, refl)) refl λ int dir v sh.
       by int dir v (holds (b % 16) s) refl
       (without-modrm v m eip i sh 36 (signed md) 2 (record { isClass = h; noOverride = refl; noEscape = refl; built = refl; defined = refl }) refl refl (rw l (number-one v m eip i sh 1 (omega arith))))
     where
@@ -226,19 +243,19 @@ module _ (m : Mem) (e : List ℕ) (s : Status) (eip i : ℕ) where
 
   jump-235 : b ≡ 235 → FastOk m e s eip i (jumpFast (wrap (wrap (eip + 2) + signed md)))
   unfolding familyOf operationIn arithmeticFamily moveFamily flowFamily classOf jumpFast
-  jump-235 h = jumping m e s eip i _ (refl, (refl, refl)) λ int dir v sh.
+  jump-235 h = jumping m e s eip i _ (refl, (refl, refl)) refl λ int dir v sh.
       jump-fits v m e s eip i int dir (b % 16) 0 (signed md) 2
       (without-modrm v m eip i sh 39 (signed md) 2 (record { isClass = ap classOf h; noOverride = refl; noEscape = refl; built = refl; defined = refl }) refl refl (rw h (number-one v m eip i sh 1 (omega arith))))
 
   jump-233 : b ≡ 233 → FastOk m e s eip i (jumpFast (wrap (wrap (eip + 5) + dwordAt m (i + 1))))
   unfolding familyOf operationIn arithmeticFamily moveFamily flowFamily classOf jumpFast
-  jump-233 h = jumping m e s eip i _ (refl, (refl, refl)) λ int dir v sh.
+  jump-233 h = jumping m e s eip i _ (refl, (refl, refl)) refl λ int dir v sh.
       jump-fits v m e s eip i int dir (b % 16) 0 (dwordAt m (i + 1)) 5
       (without-modrm v m eip i sh 39 (dwordAt m (i + 1)) 5 (record { isClass = ap classOf h; noOverride = refl; noEscape = refl; built = refl; defined = refl }) refl refl (rw h (number-four v m eip i sh 1 (omega arith))))
 
   call-232 : b ≡ 232 → FastOk m e s eip i (pushFast e (wrap (eip + 5)) (wrap (wrap (eip + 5) + dwordAt m (i + 1))))
   unfolding familyOf operationIn arithmeticFamily moveFamily flowFamily classOf pushFast
-  call-232 h = working m e s eip i _ refl λ int dir v sh.
+  call-232 h = working m e s eip i _ (refl, refl) λ int dir v sh.
       call-fits v m e s eip i int dir (b % 16) 0 (dwordAt m (i + 1)) 5
       (without-modrm v m eip i sh 40 (dwordAt m (i + 1)) 5 (record { isClass = ap classOf h; noOverride = refl; noEscape = refl; built = refl; defined = refl }) refl refl (rw h (number-four v m eip i sh 1 (omega arith))))
 
@@ -330,6 +347,12 @@ module _ (m : Mem) (e : List ℕ) (s : Status) (eip i : ℕ) where
 
     pub taken-times : (n : ℕ) (long : Bool) → b′ ≡ n → classOf n ≡ 33 → longOpcode n ≡ long → p ≡ timesFast m e eip i long md′ → FastOk m e s eip i p
     taken-times n long h c l ep = rw (ep, em) (times-33 long (ap classOf (opcode n h) ∙ c) (ap longOpcode (opcode n h) ∙ l))
+
+    pub taken-double : b′ ≡ 0xf7 → (leb 192 md′ && eqb (md′ / 8 % 8) 4) ≡ true → p ≡ doubleFast e eip md′ → FastOk m e s eip i p
+    taken-double h t ep =
+        let d : leb 192 md′ ≡ true = and-left (leb 192 md′) (eqb (md′ / 8 % 8) 4) t in
+        let r : md′ / 8 % 8 ≡ 4 = eqb-true _ _ (and-right (leb 192 md′) (eqb (md′ / 8 % 8) 4) t) in
+        rw (ep, em) (double-247 (opcode 0xf7 h) (rw em at d) (rw em at r))
 
     pub taken-near : (n x z : ℕ) → b′ ≡ 235 → n ≡ wrap (eip + 2) → x ≡ signed md′ → z ≡ wrap (n + x) → p ≡ jumpFast z → FastOk m e s eip i p
     taken-near n x z h en ex ez ep = rw (ep, ez, en, ex, em) (jump-235 (opcode 235 h))

@@ -50,6 +50,7 @@ leftFast mem e eip i op b m y n =
     record {
       taken = true;
       jumps = false;
+      doubling = false;
       op = op;
       wide = isOdd b;
       access = leftAccess m op;
@@ -69,6 +70,7 @@ fromFast mem e eip i op b m =
     record {
       taken = true;
       jumps = false;
+      doubling = false;
       op = op;
       wide = isOdd b;
       access = cond (isDirect m) 0 2;
@@ -103,6 +105,7 @@ timesFast mem e eip i long m =
     record {
       taken = true;
       jumps = false;
+      doubling = false;
       op = 14;
       wide = true;
       access = cond (isDirect m) 0 1;
@@ -113,11 +116,16 @@ timesFast mem e eip i long m =
       next = wrap (eip + (upTo mem i m + cond long 4 1));
     }
 
+-- MUL by a register
+unfoldable pub doubleFast : List ℕ → ℕ → ℕ → Fast
+doubleFast e eip m =
+    record { taken = false; jumps = false; doubling = true; op = 9; wide = true; access = 0; at = 0; x = readAt true (file e) (m % 8); y = 0; to = 8; next = wrap (eip + 2) }
+
 -- ---- others
 
 unfoldable pub addressFast : Mem → List ℕ → ℕ → ℕ → ℕ → Fast
 addressFast mem e eip i m =
-    record { taken = true; jumps = false; op = 9; wide = true; access = 0; at = 0; x = 0; y = spotOf mem e i m; to = m / 8 % 8; next = wrap (eip + upTo mem i m) }
+    record { taken = true; jumps = false; doubling = false; op = 9; wide = true; access = 0; at = 0; x = 0; y = spotOf mem e i m; to = m / 8 % 8; next = wrap (eip + upTo mem i m) }
 
 -- MOV of an immediate into a register
 unfoldable pub loadFast : Mem → ℕ → ℕ → ℕ → Fast
@@ -125,6 +133,7 @@ loadFast mem eip i b =
     record {
       taken = true;
       jumps = false;
+      doubling = false;
       op = 9;
       wide = eqb (b / 8 % 2) 1;
       access = 0;
@@ -138,15 +147,15 @@ loadFast mem eip i b =
 -- INC (10) and DEC (11) of a register
 unfoldable pub countFast : List ℕ → ℕ → ℕ → ℕ → Fast
 countFast e eip op b =
-    record { taken = true; jumps = false; op = op; wide = true; access = 0; at = 0; x = register (file e) (b % 8); y = 0; to = b % 8; next = wrap (eip + 1) }
+    record { taken = true; jumps = false; doubling = false; op = op; wide = true; access = 0; at = 0; x = register (file e) (b % 8); y = 0; to = b % 8; next = wrap (eip + 1) }
 
 unfoldable pub jumpFast : ℕ → Fast
-jumpFast eip = record { taken = true; jumps = true; op = 9; wide = true; access = 0; at = 0; x = 0; y = 0; to = 8; next = eip }
+jumpFast eip = record { taken = true; jumps = true; doubling = false; op = 9; wide = true; access = 0; at = 0; x = 0; y = 0; to = 8; next = eip }
 
 -- y is pushed, and the program goes on at eip
 unfoldable pub pushFast : List ℕ → ℕ → ℕ → Fast
-pushFast e y eip = record { taken = true; jumps = false; op = 9; wide = true; access = 4; at = lowered (file e); x = 0; y = y; to = 8; next = eip }
+pushFast e y eip = record { taken = true; jumps = false; doubling = false; op = 9; wide = true; access = 4; at = lowered (file e); x = 0; y = y; to = 8; next = eip }
 
 -- a pop into register n (5), or a return (6)
 unfoldable pub popFast : List ℕ → ℕ → ℕ → ℕ → Fast
-popFast e access n eip = record { taken = true; jumps = false; op = 9; wide = true; access = access; at = register (file e) 4; x = 0; y = 0; to = n; next = eip }
+popFast e access n eip = record { taken = true; jumps = false; doubling = false; op = 9; wide = true; access = access; at = register (file e) 4; x = 0; y = 0; to = n; next = eip }

@@ -2,9 +2,10 @@
 -- Assumes nothing.
 use Prim.Native.Nat.{ℕ, _+_, _%_, _<_}
 use mathlib.Core.Path.{_≡_}
-use mathlib.Core.Bool.{Bool, true, not, cond, _||_}
+use mathlib.Core.Bool.{Bool, true, false, not, cond, _||_}
 use mathlib.Core.List.{List}
 use lib.Dec.{ltb, eqb}
+use lib.ListN.{getD}
 use Rattle.alu.specs.declared.Status.{Status}
 use Rattle.alu.specs.declared.Out.{Out}
 use Rattle.alu.specs.Arithmetic.{operate, operateOne}
@@ -89,17 +90,35 @@ coreAfter p k a =
       flags = withStatus (k .flags) (resultOf p a (k .flags .status) .status);
     }
 
--- ---- it is the instruction that the definition decodes, with the same accesses and the same effect
+-- MUL of EAX by the register whose value is x: the halves go to EAX and EDX
+abbrev pub doubledIn : Fast → List ℕ → Status → Product
+doubledIn p e s = product false true (getD e 0 0) (p .x) s
 
-pub record Fits (v : View) (k : Core) (p : Fast) : Type 0 where
+abbrev pub doubledOf : Fast → Core → Product
+doubledOf p k = doubledIn p (k .regs .e) (k .flags .status)
+
+unfoldable pub doubledAfter : Fast → Core → Core
+doubledAfter p k =
+    record {
+      regs = withRegister (withRegister (k .regs) 0 (doubledOf p k .low)) 2 (doubledOf p k .high);
+      eip = p .next;
+      flags = withStatus (k .flags) (doubledOf p k .status);
+    }
+
+-- ---- it is the instruction that the definition decodes, with the same accesses, and with `after` of the value found as its effect
+
+pub record FitsTo (v : View) (k : Core) (p : Fast) (after : ℕ → Core) : Type 0 where
   pub instr : Instruction
   pub decodes : decode (k .eip) v (logAt (k .eip) 0) ≡ ok instr (logAt (k .eip) (instr .length))
   pub free : (iopl ring : ℕ) → permitted instr iopl ring ≡ true
   pub firstly : first instr (k .regs) ≡ wantFirst p
   pub secondly : second instr (k .regs) ≡ wantSecond p
   pub done : (a : ℕ) → compute instr k a .reply ≡ Done
-  pub core : (a : ℕ) → a < 4294967296 → compute instr k a .core ≡ coreAfter p k a
+  pub core : (a : ℕ) → a < 4294967296 → compute instr k a .core ≡ after a
   pub value : (a : ℕ) → a < 4294967296 → stores p ≡ true → compute instr k a .value ≡ resultOf p a (k .flags .status) .value
+
+abbrev pub Fits : View → Core → Fast → Type 0
+Fits v k p = FitsTo v k p (λ a. coreAfter p k a)
 
 -- a core from the parts that the quick way keeps apart
 abbrev pub coreFrom : List ℕ → ℕ → Status → Bool → Bool → Core
@@ -113,3 +132,5 @@ Idle p = (p .access ≡ 0) × ((p .op ≡ 9) × (p .to ≡ 8))
 pub record FastOk (m : Mem) (e : List ℕ) (s : Status) (eip i : ℕ) (p : Fast) : Type 0 where
   pub fits : p .taken ≡ true → (interrupt direction : Bool) (v : View) → Shows v m eip i → Fits v (coreFrom e eip s interrupt direction) p
   pub idle : p .jumps ≡ true → Idle p
+  pub doubles : p .doubling ≡ true → (p .access ≡ 0) × ((interrupt direction : Bool) (v : View) → Shows v m eip i
+      → FitsTo v (coreFrom e eip s interrupt direction) p (λ a. doubledAfter p (coreFrom e eip s interrupt direction)))

@@ -3,11 +3,11 @@ ghost use mathlib.Core.Path.{_≡_};
 ghost use mathlib.Core.Bool.{Bool, true, false, cond};
 ghost use Prim.Native.Nat.{ℕ, _+_, _*_, _/_, _%_, _<_, _≤_, _^_};
 ghost use lib.ListN.{length, set};
-ghost use Rattle.machine.specs.Record.{writeAt, replaced};
+ghost use Rattle.machine.specs.Record.{withRegister, writeAt, replaced};
 ghost use Rattle.products.specs.Products.{product};
 ghost use Rattle.shifts.specs.Shifts.{shifted};
 ghost use Rattle.alu.specs.Brief.{statusIn, outIn};
-ghost use Rattle.shortcut.specs.Shortcut.{lowOut, outOf, resultOf, stacked, depositOf};
+ghost use Rattle.shortcut.specs.Shortcut.{lowOut, outOf, resultOf, stacked, depositOf, doubledIn};
 ghost use Rattle.shortcut.specs.Forms.{file};
 use crate::Fast;
 use alu::brief::Brief;
@@ -145,4 +145,14 @@ pub fn deposit(e: &mut [u32], p: Fast, x: u32)
     if p.to < 8 {
         write(e, p.wide, p.to, x);
     }
+}
+
+// MUL: EAX and EDX take the halves of the product; answers the flags.
+pub fn double(e: &mut [u32], p: Fast, f: Brief) -> Brief
+    ensures { λ r. ⌜ (now (e .exit) ≡ withRegister (withRegister (file (now (e .entry))) 0 (doubledIn p (now (e .entry)) (statusIn f) .low)) 2 (doubledIn p (now (e .entry)) (statusIn f) .high) .e) × (statusIn r ≡ doubledIn p (now (e .entry)) (statusIn f) .status) ⌝ }
+{
+    let q = products::multiply32(false, crate::bytes::register(e, 0), p.x, f);
+    put(e, 0, q.low);
+    put(e, 2, q.high);
+    q.flags
 }

@@ -16,15 +16,16 @@ ghost use Rattle.decode.specs.Decode.{signed};
 ghost use Rattle.alu.specs.declared.Status.{Status};
 ghost use Rattle.alu.specs.Brief.{statusIn};
 ghost use Rattle.shortcut.specs.Shortcut.{FastOk};
-ghost use Rattle.shortcut.specs.Forms.{file, toFast, fromFast, numberFast, placesAt, placesFast, timesFast, addressFast, loadFast, countFast, jumpFast, pushFast, popFast, leftAccess, taking, leftRegister, operationOf};
+ghost use Rattle.shortcut.specs.Forms.{file, toFast, fromFast, numberFast, placesAt, placesFast, timesFast, doubleFast, addressFast, loadFast, countFast, jumpFast, pushFast, popFast, leftAccess, taking, leftRegister, operationOf};
 use alu::brief::Brief;
 
-// An instruction: is it taken; is it a jump and nothing else; the operation (10 INC, 11 DEC, else as for two operands); a dword's or a byte's;
+// An instruction: is it taken; is it a jump and nothing else; or is it a MUL, which is not taken like the others since it writes two registers; the operation (10 INC, 11 DEC, else as for two operands); a dword's or a byte's;
 // the access (0 none, 1 a read of x, 2 of y, 3 a read-and-write of x, 4 a push, 5 a pop, 6 a return) and its address; the operands; the
 // register that takes the result, 8 for none; the next EIP.
 pub struct Fast {
     pub taken: bool,
     pub jumps: bool,
+    pub doubling: bool,
     pub op: u32,
     pub wide: bool,
     pub access: u32,
@@ -37,11 +38,12 @@ pub struct Fast {
 
 // Not taken.
 fn none() -> Fast
-    ensures { λ r. ⌜ (r .taken ≡ false) × (r .jumps ≡ false) ⌝ }
+    ensures { λ r. ⌜ (r .taken ≡ false) × ((r .jumps ≡ false) × (r .doubling ≡ false)) ⌝ }
 {
     Fast {
         taken: false,
         jumps: false,
+        doubling: false,
         op: 0,
         wide: true,
         access: 0,
@@ -90,6 +92,7 @@ fn to_operand(mem: &[u8], e: &[u32], eip: u32, i: usize, op: u32, b: u32, m: u32
     Fast {
         taken: true,
         jumps: false,
+        doubling: false,
         op,
         wide: w,
         access: left_access(m, op),
@@ -111,6 +114,7 @@ fn from_operand(mem: &[u8], e: &[u32], eip: u32, i: usize, op: u32, b: u32, m: u
     Fast {
         taken: true,
         jumps: false,
+        doubling: false,
         op,
         wide: w,
         access: either(192 <= m, 0, 2),
@@ -133,6 +137,7 @@ fn by_number(mem: &[u8], e: &[u32], eip: u32, i: usize, long: bool, b: u32, m: u
     Fast {
         taken: true,
         jumps: false,
+        doubling: false,
         op,
         wide: w,
         access: left_access(m, op),
@@ -152,6 +157,7 @@ fn address_of(mem: &[u8], e: &[u32], eip: u32, i: usize, m: u32) -> Fast
     Fast {
         taken: true,
         jumps: false,
+        doubling: false,
         op: 9,
         wide: true,
         access: 0,
@@ -171,6 +177,7 @@ fn load(mem: &[u8], eip: u32, i: usize, b: u32) -> Fast
     Fast {
         taken: true,
         jumps: false,
+        doubling: false,
         op: 9,
         wide: w,
         access: 0,
@@ -188,6 +195,7 @@ fn count(e: &[u32], eip: u32, op: u32, b: u32) -> Fast
     Fast {
         taken: true,
         jumps: false,
+        doubling: false,
         op,
         wide: true,
         access: 0,
@@ -205,6 +213,7 @@ fn jump(eip: u32) -> Fast
     Fast {
         taken: true,
         jumps: true,
+        doubling: false,
         op: 9,
         wide: true,
         access: 0,
@@ -222,6 +231,7 @@ fn push(e: &[u32], y: u32, eip: u32) -> Fast
     Fast {
         taken: true,
         jumps: false,
+        doubling: false,
         op: 9,
         wide: true,
         access: 4,
@@ -239,6 +249,7 @@ fn pop(e: &[u32], access: u32, n: u32, eip: u32) -> Fast
     Fast {
         taken: true,
         jumps: false,
+        doubling: false,
         op: 9,
         wide: true,
         access,
@@ -287,6 +298,7 @@ fn by_places(mem: &[u8], e: &[u32], eip: u32, i: usize, b: u32, m: u32) -> Fast
     Fast {
         taken: true,
         jumps: false,
+        doubling: false,
         op,
         wide: w,
         access: left_access(m, op),
@@ -307,6 +319,7 @@ fn times_number(mem: &[u8], e: &[u32], eip: u32, i: usize, long: bool, m: u32) -
     Fast {
         taken: true,
         jumps: false,
+        doubling: false,
         op: 14,
         wide: true,
         access: either(192 <= m, 0, 1),
@@ -315,6 +328,25 @@ fn times_number(mem: &[u8], e: &[u32], eip: u32, i: usize, long: bool, m: u32) -
         y: bytes::number(mem, i + q.upto as usize, long),
         to: m / 8 % 8,
         next: std::num::wrapping_add_u32(eip, q.upto + either(long, 4, 1)),
+    }
+}
+
+// MUL of EAX by a register; the group's other forms, and MUL of memory, are not taken.
+fn double(e: &[u32], eip: u32, m: u32) -> Fast
+    ensures { λ r. ⌜ r ≡ doubleFast (now (e .entry)) eip m ⌝ }
+{
+    Fast {
+        taken: false,
+        jumps: false,
+        doubling: true,
+        op: 9,
+        wide: true,
+        access: 0,
+        at: 0,
+        x: bytes::read(e, true, m % 8),
+        y: 0,
+        to: 8,
+        next: std::num::wrapping_add_u32(eip, 2),
     }
 }
 
@@ -372,6 +404,12 @@ fn by_opcode(mem: &[u8], e: &[u32], eip: u32, i: usize, b: u32, m: u32) -> Fast
         235 => {
             let next = std::num::wrapping_add_u32(eip, 2);
             jump(std::num::wrapping_add_u32(next, decode::extend(m)))
+        }
+        0xf7 => {
+            if (192 <= m) & (m / 8 % 8 == 4) {
+                return double(e, eip, m);
+            }
+            none()
         }
         _ => none(),
     }

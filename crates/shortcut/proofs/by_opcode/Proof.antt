@@ -1,6 +1,6 @@
 use mathlib.Core.Bool.{true, false}
 use Rattle.encoding.specs.Encodings.{classOf}
-use Rattle.shortcut.proofs.Taken.{not-taken, taken-number, taken-times, taken-near, taken-far, taken-call}
+use Rattle.shortcut.proofs.Taken.{not-taken, taken-number, taken-times, taken-double, taken-near, taken-far, taken-call}
 use borrow.Author.Needs.{needs}
 use mathlib.Core.Path.{refl}
 use Rattle.shortcut.proofs.by_opcode.Statement.{statement}
@@ -72,31 +72,37 @@ wrapping-add-u32-requires-6 c κs = search needs
 jump-requires-2 : tie.Need-jump-requires-2
 jump-requires-2 c κs = search needs
 
+double-requires : tie.Need-double-requires
+double-requires c κs = search needs
+
+returns : tie.Need-returns
+returns c = λ s. taken-double ((c .before .before .before .before .before .args .mem .now)) ((c .before .before .before .before .before .args .e .now)) s ((c .before .before .before .before .before .args .eip)) ((c .before .before .before .before .before .args .i)) _ _ ((c .before .before .before .before .before .pre .1 .0)) ((c .before .before .before .before .before .pre .1 .1 .0)) _ ((c .before .before .match .keys12)) ((c .before .if1 .taken)) ((c .double .ensures))
+
 none-requires : tie.Need-none-requires
 none-requires c κs = search needs
 
-returns : tie.Need-returns
-unfolding classOf
-returns c = λ s. taken-times ((c .before .before .before .before .args .mem .now)) ((c .before .before .before .before .args .e .now)) s ((c .before .before .before .before .args .eip)) ((c .before .before .before .before .args .i)) _ _ ((c .before .before .before .before .pre .1 .0)) ((c .before .before .before .before .pre .1 .1 .0)) _ 105 true ((c .before .match .keys1)) refl refl ((c .times-number .ensures))
+none-requires-2 : tie.Need-none-requires-2
+none-requires-2 c κs = search needs
 
 returns-2 : tie.Need-returns-2
 unfolding classOf
-returns-2 c = λ s. taken-times ((c .before .before .before .before .args .mem .now)) ((c .before .before .before .before .args .e .now)) s ((c .before .before .before .before .args .eip)) ((c .before .before .before .before .args .i)) _ _ ((c .before .before .before .before .pre .1 .0)) ((c .before .before .before .before .pre .1 .1 .0)) _ 107 false ((c .before .match .keys2)) refl refl ((c .times-number2 .ensures))
+returns-2 c = λ s. taken-times ((c .before .before .before .before .args .mem .now)) ((c .before .before .before .before .args .e .now)) s ((c .before .before .before .before .args .eip)) ((c .before .before .before .before .args .i)) _ _ ((c .before .before .before .before .pre .1 .0)) ((c .before .before .before .before .pre .1 .1 .0)) _ 105 true ((c .before .match .keys1)) refl refl ((c .times-number .ensures))
 
 returns-3 : tie.Need-returns-3
 unfolding classOf
-returns-3 c = λ s. taken-number ((c .before .before .before .before .args .mem .now)) ((c .before .before .before .before .args .e .now)) s ((c .before .before .before .before .args .eip)) ((c .before .before .before .before .args .i)) _ _ ((c .before .before .before .before .pre .1 .0)) ((c .before .before .before .before .pre .1 .1 .0)) _ 128 false ((c .before .match .keys3)) refl refl ((c .by-number .ensures))
+returns-3 c = λ s. taken-times ((c .before .before .before .before .args .mem .now)) ((c .before .before .before .before .args .e .now)) s ((c .before .before .before .before .args .eip)) ((c .before .before .before .before .args .i)) _ _ ((c .before .before .before .before .pre .1 .0)) ((c .before .before .before .before .pre .1 .1 .0)) _ 107 false ((c .before .match .keys2)) refl refl ((c .times-number2 .ensures))
 
 returns-4 : tie.Need-returns-4
 unfolding classOf
-returns-4 c = λ s. taken-number ((c .before .before .before .before .args .mem .now)) ((c .before .before .before .before .args .e .now)) s ((c .before .before .before .before .args .eip)) ((c .before .before .before .before .args .i)) _ _ ((c .before .before .before .before .pre .1 .0)) ((c .before .before .before .before .pre .1 .1 .0)) _ 129 true ((c .before .match .keys4)) refl refl ((c .by-number2 .ensures))
+returns-4 c = λ s. taken-number ((c .before .before .before .before .args .mem .now)) ((c .before .before .before .before .args .e .now)) s ((c .before .before .before .before .args .eip)) ((c .before .before .before .before .args .i)) _ _ ((c .before .before .before .before .pre .1 .0)) ((c .before .before .before .before .pre .1 .1 .0)) _ 128 false ((c .before .match .keys3)) refl refl ((c .by-number .ensures))
 
 returns-5 : tie.Need-returns-5
 unfolding classOf
-returns-5 c = λ s. taken-number ((c .before .before .before .before .args .mem .now)) ((c .before .before .before .before .args .e .now)) s ((c .before .before .before .before .args .eip)) ((c .before .before .before .before .args .i)) _ _ ((c .before .before .before .before .pre .1 .0)) ((c .before .before .before .before .pre .1 .1 .0)) _ 131 false ((c .before .match .keys5)) refl refl ((c .by-number3 .ensures))
+returns-5 c = λ s. taken-number ((c .before .before .before .before .args .mem .now)) ((c .before .before .before .before .args .e .now)) s ((c .before .before .before .before .args .eip)) ((c .before .before .before .before .args .i)) _ _ ((c .before .before .before .before .pre .1 .0)) ((c .before .before .before .before .pre .1 .1 .0)) _ 129 true ((c .before .match .keys4)) refl refl ((c .by-number2 .ensures))
 
 returns-6 : tie.Need-returns-6
-returns-6 c = search needs
+unfolding classOf
+returns-6 c = λ s. taken-number ((c .before .before .before .before .args .mem .now)) ((c .before .before .before .before .args .e .now)) s ((c .before .before .before .before .args .eip)) ((c .before .before .before .before .args .i)) _ _ ((c .before .before .before .before .pre .1 .0)) ((c .before .before .before .before .pre .1 .1 .0)) _ 131 false ((c .before .match .keys5)) refl refl ((c .by-number3 .ensures))
 
 returns-7 : tie.Need-returns-7
 returns-7 c = search needs
@@ -105,16 +111,22 @@ returns-8 : tie.Need-returns-8
 returns-8 c = search needs
 
 returns-9 : tie.Need-returns-9
-returns-9 c = λ s. taken-call ((c .before .before .before .before .before .before .before .args .mem .now)) ((c .before .before .before .before .before .before .before .args .e .now)) s ((c .before .before .before .before .before .before .before .args .eip)) ((c .before .before .before .before .before .before .before .args .i)) _ _ ((c .before .before .before .before .before .before .before .pre .1 .0)) ((c .before .before .before .before .before .before .before .pre .1 .1 .0)) _ _ _ _ ((c .before .before .before .before .match .keys9)) ((c .before .before .before .wrapping-add-u32 .ensures)) ((c .before .before .dword .ensures)) ((c .before .wrapping-add-u322 .ensures)) ((c .push .ensures))
+returns-9 c = search needs
 
 returns-10 : tie.Need-returns-10
-returns-10 c = λ s. taken-far ((c .before .before .before .before .before .before .before .args .mem .now)) ((c .before .before .before .before .before .before .before .args .e .now)) s ((c .before .before .before .before .before .before .before .args .eip)) ((c .before .before .before .before .before .before .before .args .i)) _ _ ((c .before .before .before .before .before .before .before .pre .1 .0)) ((c .before .before .before .before .before .before .before .pre .1 .1 .0)) _ _ _ _ ((c .before .before .before .before .match .keys10)) ((c .before .before .before .wrapping-add-u323 .ensures)) ((c .before .before .dword2 .ensures)) ((c .before .wrapping-add-u324 .ensures)) ((c .jump .ensures))
+returns-10 c = λ s. taken-call ((c .before .before .before .before .before .before .before .args .mem .now)) ((c .before .before .before .before .before .before .before .args .e .now)) s ((c .before .before .before .before .before .before .before .args .eip)) ((c .before .before .before .before .before .before .before .args .i)) _ _ ((c .before .before .before .before .before .before .before .pre .1 .0)) ((c .before .before .before .before .before .before .before .pre .1 .1 .0)) _ _ _ _ ((c .before .before .before .before .match .keys9)) ((c .before .before .before .wrapping-add-u32 .ensures)) ((c .before .before .dword .ensures)) ((c .before .wrapping-add-u322 .ensures)) ((c .push .ensures))
 
 returns-11 : tie.Need-returns-11
-returns-11 c = λ s. taken-near ((c .before .before .before .before .before .before .before .args .mem .now)) ((c .before .before .before .before .before .before .before .args .e .now)) s ((c .before .before .before .before .before .before .before .args .eip)) ((c .before .before .before .before .before .before .before .args .i)) _ _ ((c .before .before .before .before .before .before .before .pre .1 .0)) ((c .before .before .before .before .before .before .before .pre .1 .1 .0)) _ _ _ _ ((c .before .before .before .before .match .keys11)) ((c .before .before .before .wrapping-add-u325 .ensures)) ((c .before .before .extend .ensures)) ((c .before .wrapping-add-u326 .ensures)) ((c .jump2 .ensures))
+returns-11 c = λ s. taken-far ((c .before .before .before .before .before .before .before .args .mem .now)) ((c .before .before .before .before .before .before .before .args .e .now)) s ((c .before .before .before .before .before .before .before .args .eip)) ((c .before .before .before .before .before .before .before .args .i)) _ _ ((c .before .before .before .before .before .before .before .pre .1 .0)) ((c .before .before .before .before .before .before .before .pre .1 .1 .0)) _ _ _ _ ((c .before .before .before .before .match .keys10)) ((c .before .before .before .wrapping-add-u323 .ensures)) ((c .before .before .dword2 .ensures)) ((c .before .wrapping-add-u324 .ensures)) ((c .jump .ensures))
 
 returns-12 : tie.Need-returns-12
-returns-12 c = λ s. not-taken ((c .before .before .before .before .args .mem .now)) ((c .before .before .before .before .args .e .now)) s ((c .before .before .before .before .args .eip)) ((c .before .before .before .before .args .i)) _ ((c .none .ensures))
+returns-12 c = λ s. taken-near ((c .before .before .before .before .before .before .before .args .mem .now)) ((c .before .before .before .before .before .before .before .args .e .now)) s ((c .before .before .before .before .before .before .before .args .eip)) ((c .before .before .before .before .before .before .before .args .i)) _ _ ((c .before .before .before .before .before .before .before .pre .1 .0)) ((c .before .before .before .before .before .before .before .pre .1 .1 .0)) _ _ _ _ ((c .before .before .before .before .match .keys11)) ((c .before .before .before .wrapping-add-u325 .ensures)) ((c .before .before .extend .ensures)) ((c .before .wrapping-add-u326 .ensures)) ((c .jump2 .ensures))
+
+returns-13 : tie.Need-returns-13
+returns-13 c = λ s. not-taken ((c .before .before .before .before .before .args .mem .now)) ((c .before .before .before .before .before .args .e .now)) s ((c .before .before .before .before .before .args .eip)) ((c .before .before .before .before .before .args .i)) _ ((c .none .ensures))
+
+returns-14 : tie.Need-returns-14
+returns-14 c = λ s. not-taken ((c .before .before .before .before .args .mem .now)) ((c .before .before .before .before .args .e .now)) s ((c .before .before .before .before .args .eip)) ((c .before .before .before .before .args .i)) _ ((c .none2 .ensures))
 
 pub by-opcode-spec : {M : Type 1} → statement M
 by-opcode-spec =
@@ -142,8 +154,10 @@ by-opcode-spec =
     extend-requires
     wrapping-add-u32-requires-6
     jump-requires-2
-    none-requires
+    double-requires
     returns
+    none-requires
+    none-requires-2
     returns-2
     returns-3
     returns-4
@@ -154,4 +168,6 @@ by-opcode-spec =
     returns-9
     returns-10
     returns-11
-    returns-12)
+    returns-12
+    returns-13
+    returns-14)
