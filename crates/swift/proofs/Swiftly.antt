@@ -16,7 +16,7 @@ use Rattle.machine.specs.declared.Control.{Control}
 use Rattle.machine.specs.declared.Core.{Core}
 use Rattle.machine.specs.declared.Cpu.{Cpu}
 use Rattle.machine.specs.declared.Reply.the-variants.{Done}
-use Rattle.machine.specs.Record.{Mem, at, wrap, iopl, has, sound, withCore}
+use Rattle.machine.specs.Record.{Mem, at, wrap, iopl, has, sound, withCore, withRegister}
 use Rattle.machine.specs.Replies.{isDone}
 use Rattle.machine.specs.Paging.{At, translate, view}
 use Rattle.machine.specs.Commit.{Patch, patches}
@@ -33,7 +33,7 @@ use Rattle.execute.specs.Execute.{compute}
 use Rattle.shortcut.specs.declared.Fast.{Fast}
 use Rattle.shortcut.specs.Bytes.{Shows}
 use Rattle.shortcut.specs.Forms.{file}
-use Rattle.shortcut.specs.Shortcut.{asks, stores, outOf, resultOf, stacked, depositOf, registersAfter, nextOf, coreAfter, Fits, coreFrom, Idle, FastOk}
+use Rattle.shortcut.specs.Shortcut.{asks, stores, outOf, resultOf, stacked, depositOf, registersAfter, nextOf, coreAfter, doubledIn, doubledOf, doubledAfter, FitsTo, coreFrom, Idle, FastOk}
 use Rattle.phases.specs.declared.Planned.{Planned}
 use Rattle.swift.specs.declared.Rest.{Rest}
 use Rattle.swift.specs.declared.Sought.{Sought}
@@ -55,6 +55,10 @@ saved-same p i v v′ m h = by (stores p) h
 
 -- ---- accesses that store nothing and leave the stack, and jumps
 
+-- no access
+abbrev nowhere : Sought
+nowhere = record { found = true; at = 0; value = 0 }
+
 module _ (p : Fast) (h : p .access < 3) where
   no : (n : ℕ) → 3 ≤ n → asks n p ≡ false
   no n k = ne-eqb (p .access) n (λ q. omega (arith, h, k, q))
@@ -66,6 +70,9 @@ module _ (p : Fast) (h : p .access < 3) where
   few-saved : (i v : ℕ) (m : Mem) → saved p i v m ≡ m
   unfolding saved
   few-saved i v m = rw (no 3 (omega arith), no 4 (omega arith))
+
+  few-stores : stores p ≡ false
+  few-stores = rw (no 3 (omega arith), no 4 (omega arith))
 
   few-next : (a : ℕ) → nextOf p a ≡ p .next
   few-next a = rw (no 6 (omega arith))
@@ -113,20 +120,17 @@ module _ (m : Mem) (size : length m % 4096 ≡ 0) (e : List ℕ) (r : Rest) (d :
       same-page : (n : ℕ) → n < 16 → (eip + n) / 4096 ≡ r .kept .page
       same-page n h = let z : (eip + n) / 4096 ≡ eip / 4096 = omega arith in z ∙ page
 
-  module _ (p : Fast) (q : Sought) (fast : FastOk m e (statusIn (r .flags)) eip start p) (taken : p .taken ≡ true) (found : Reaches m c p q) (few : q .value < 4294967296)
+  abbrev int : Bool
+  int = has 512 (d .eflags)
+
+  abbrev dir : Bool
+  dir = has 1024 (d .eflags)
+
+  abbrev k : Core
+  k = coreFrom e eip (statusIn (r .flags)) int dir
+
+  module _ (p : Fast) (q : Sought) (after : ℕ → Core) (fits : FitsTo (view m c) k p after) (found : Reaches m c p q) (few : q .value < 4294967296)
       (good : sound m (current d e r) ≡ true) where
-    abbrev int : Bool
-    int = has 512 (d .eflags)
-
-    abbrev dir : Bool
-    dir = has 1024 (d .eflags)
-
-    abbrev k : Core
-    k = coreFrom e eip (statusIn (r .flags)) int dir
-
-    fits : Fits (view m c) k p
-    fits = fast .fits taken int dir (view m c) shown
-
     length-within : (0 < fits .instr .length) × (fits .instr .length ≤ 15)
     length-within = fetched-within eip (fits .instr .length) (view m c) (fits .instr) (fits .decodes)
 
@@ -148,32 +152,42 @@ module _ (m : Mem) (size : length m % 4096 ≡ 0) (e : List ℕ) (r : Rest) (d :
       second = found .two;
     }
 
-    stored : {m′ : Mem} {o : Out} → o ≡ resultOf p (q .value) (statusIn (r .flags)) → m′ ≡ saved p (q .at) (o .value) m → m′ ≡ left planned m
+    stored : {m′ : Mem} (x : ℕ) → (stores p ≡ true → x ≡ resultOf p (q .value) (statusIn (r .flags)) .value) → m′ ≡ saved p (q .at) x m → m′ ≡ left planned m
     unfolding left
-    stored eo em =
-        em ∙ saved-same p (q .at) _ _ m (λ h. ap (λ (x : Out). x .value) eo ∙ sym (fits .value (q .value) few h))
+    stored x ex em =
+        em ∙ saved-same p (q .at) _ _ m (λ h. ex h ∙ sym (fits .value (q .value) few h))
         ∙ sym (found .left (planned .value)) ∙ ap (λ (x : Mem). patches (puts (found .two) (planned .value)) (patches (puts (found .one) (planned .value)) x)) (sym (found .quiet))
 
-    advanced : {e′ : List ℕ} {o : Out} (r′ : Rest) → o ≡ resultOf p (q .value) (statusIn (r .flags)) → e′ ≡ registersAfter p (file e) (o .value) .e → r′ .eip ≡ nextOf p (q .value)
-        → statusIn (r′ .flags) ≡ o .status → current d e′ r′ ≡ withCore (current d e r) (planned .core)
-    unfolding coreAfter
-    advanced {o = o} r′ eo ee ei es =
-        let er = ee ∙ ap (λ (x : Out). registersAfter p (file e) (x .value) .e) eo in
-        let et = es ∙ ap (λ (x : Out). x .status) eo in
-        (λ j. withCore d (record { regs = record { e = er j }; eip = ei j; flags = record { status = et j; interrupt = int; direction = dir } }))
-        ∙ sym (ap (withCore d) (fits .core (q .value) few)) ∙ sym (core-again d k (planned .core))
-
-    quick-step : {m′ : Mem} {e′ : List ℕ} {o : Out} (r′ : Rest) → o ≡ resultOf p (q .value) (statusIn (r .flags)) → m′ ≡ saved p (q .at) (o .value) m
-        → e′ ≡ registersAfter p (file e) (o .value) .e → r′ .eip ≡ nextOf p (q .value) → statusIn (r′ .flags) ≡ o .status
-        → record { reply = Done; cpu = current d e′ r′; mem = m′ } ≡ step micro32 m (current d e r)
-    quick-step r′ eo em ee ei es =
+    quick-step : {m′ : Mem} {e′ : List ℕ} (x : ℕ) (r′ : Rest) → (stores p ≡ true → x ≡ resultOf p (q .value) (statusIn (r .flags)) .value) → m′ ≡ saved p (q .at) x m
+        → current d e′ r′ ≡ withCore d (after (q .value)) → record { reply = Done; cpu = current d e′ r′; mem = m′ } ≡ step micro32 m (current d e r)
+    quick-step x r′ ex em ea =
         let n = length-within in
+        let core = ea ∙ sym (ap (withCore d) (fits .core (q .value) few)) ∙ sym (core-again d k (planned .core)) in
         step-on m (current d e r) planned good
         (ready m (current d e r) (fits .instr) (fits .decodes) (fits .free (iopl (current d e r .eflags)) (d .control .ring)) (found .one) (rw (fits .firstly) (found .firstly)) (found .two) (rw (fits .secondly) (found .secondly))
         (compute (fits .instr) k (q .value)) (λ j. compute (fits .instr) (sym (core-back d k) j) (sym (found .value) j)) (sym (ap isDone (fits .done (q .value)))))
         refl trail
         (trail-one m size c eip small (fits .instr .length) (Reached (record { 0 = start }) (quiet eip small page .entries)) (quiet eip small page .entries) (n .0) (omega (arith, n .1)) (omega (arith, n .1, room)) (quiet eip small page .walked) refl)
-        unmarked (stored eo em) (advanced r′ eo ee ei es)
+        unmarked (stored x ex em) core
+
+-- the core that an operation leaves, and MUL
+module _ (d : Cpu) (e : List ℕ) (r : Rest) (p : Fast) where
+  abbrev from : Core
+  from = coreFrom e (r .eip) (statusIn (r .flags)) (has 512 (d .eflags)) (has 1024 (d .eflags))
+
+  advanced : {e′ : List ℕ} {o : Out} (a : ℕ) (r′ : Rest) → o ≡ resultOf p a (statusIn (r .flags)) → e′ ≡ registersAfter p (file e) (o .value) .e → r′ .eip ≡ nextOf p a
+      → statusIn (r′ .flags) ≡ o .status → current d e′ r′ ≡ withCore d (coreAfter p from a)
+  unfolding coreAfter
+  advanced {o = o} a r′ eo ee ei es =
+      let er = ee ∙ ap (λ (x : Out). registersAfter p (file e) (x .value) .e) eo in
+      let et = es ∙ ap (λ (x : Out). x .status) eo in
+      λ j. withCore d (record { regs = record { e = er j }; eip = ei j; flags = record { status = et j; interrupt = has 512 (d .eflags); direction = has 1024 (d .eflags) } })
+
+  doubled : {e′ : List ℕ} (r′ : Rest) → e′ ≡ doubledAfter p from .regs .e → r′ .eip ≡ p .next → statusIn (r′ .flags) ≡ doubledOf p from .status
+      → current d e′ r′ ≡ withCore d (doubledAfter p from)
+  unfolding doubledAfter
+  doubled r′ ee ei es =
+      λ j. withCore d (record { regs = record { e = ee j }; eip = ei j; flags = record { status = es j; interrupt = has 512 (d .eflags); direction = has 1024 (d .eflags) } })
 
 -- ---- what the code's step answers
 
@@ -186,9 +200,12 @@ module _ (m : Mem) (e : List ℕ) (c : Control) (r : Rest) (kept : KeptOk m c (r
       → {m′ : Mem} {e′ : List ℕ} {o : Out} (r′ : Rest) → o ≡ resultOf p (q .value) (statusIn (r .flags)) → m′ ≡ saved p (q .at) (o .value) m
       → e′ ≡ registersAfter p (file e) (o .value) .e → r′ .eip ≡ nextOf p (q .value) → statusIn (r′ .flags) ≡ o .status → KeptOk m′ c (r′ .kept)
       → SwiftOk m e c r m′ e′ (record { done = true; rest = r′ })
-  hopped size small page room i p q ei′ fast taken found few r′ eo em ee ei es kept′ = record {
+  hopped size small page room i p q ei′ fast taken found few {o = o} r′ eo em ee ei es kept′ = record {
     did = λ _ d hc good.
-        quick-step m size e r d (rw hc kept) small page room p q (rw ei′ at fast) taken (rw hc found) few good r′ eo em ee ei es;
+        let k : KeptOk m (d .control) (r .kept) = rw hc kept in
+        let f : FastOk m e (statusIn (r .flags)) (r .eip) (r .kept .base + r .eip % 4096) p = rw ei′ at fast in
+        quick-step m size e r d k small page room p q (λ a. coreAfter p (from d e r p) a) (f .fits taken _ _ (view m (d .control)) (shown m size e r d k small page room)) (rw hc found) few good (o .value) r′
+        (λ _. ap (λ (x : Out). x .value) eo) em (advanced d e r p (q .value) r′ eo ee ei es);
     not = λ h. absurd (false≢true (sym h));
     kept = kept′;
   }
@@ -203,13 +220,28 @@ module _ (m : Mem) (e : List ℕ) (c : Control) (r : Rest) (kept : KeptOk m c (r
         hopped size small page room i p q start fast taken found few r′ eo (sym (few-saved p h (q .at) (o .value) m))
         (ee ∙ ap (λ (x : Registers). depositOf p x (o .value) .e) (sym (few-stacked p h (file e)))) (ei ∙ sym (few-next p h (q .value))) es kept′
 
-    abbrev none : Sought
-    none = record { found = true; at = 0; value = 0 }
-
     pub jumped : p .jumps ≡ true → (r′ : Rest) → r′ .eip ≡ p .next → r′ .flags ≡ r .flags → KeptOk m c (r′ .kept) → SwiftOk m e c r m e (record { done = true; rest = r′ })
     jumped jumps r′ ei ef kept′ =
         let idle = fast .idle jumps in
-        few-hopped none (none-reached m c p none (idle .0) refl) (omega arith) (omega (arith, idle .0)) r′ (sym (idle-result p idle 0 (statusIn (r .flags)))) (sym (idle-deposit p idle (file e) _)) ei (ap statusIn ef) kept′
+        few-hopped nowhere (none-reached m c p nowhere (idle .0) refl) (omega arith) (omega (arith, idle .0)) r′ (sym (idle-result p idle 0 (statusIn (r .flags)))) (sym (idle-deposit p idle (file e) _)) ei (ap statusIn ef) kept′
+
+  -- MUL
+  pub double-hopped : (size : length m % 4096 ≡ 0) (small : r .eip < 4294967296) (page : r .eip / 4096 ≡ r .kept .page) (room : r .eip % 4096 ≤ 4080) (i : ℕ) (p : Fast)
+      → i ≡ r .kept .base + r .eip % 4096 → FastOk m e (statusIn (r .flags)) (r .eip) i p → p .doubling ≡ true
+      → {e′ : List ℕ} (r′ : Rest) → e′ ≡ withRegister (withRegister (file e) 0 (doubledIn p e (statusIn (r .flags)) .low)) 2 (doubledIn p e (statusIn (r .flags)) .high) .e
+      → r′ .eip ≡ p .next → statusIn (r′ .flags) ≡ doubledIn p e (statusIn (r .flags)) .status → KeptOk m c (r′ .kept) → SwiftOk m e c r m e′ (record { done = true; rest = r′ })
+  unfolding doubledAfter
+  double-hopped size small page room i p ei′ fast doubling r′ ee ei es kept′ = record {
+    did = λ _ d hc good.
+        let k : KeptOk m (d .control) (r .kept) = rw hc kept in
+        let g : FastOk m e (statusIn (r .flags)) (r .eip) (r .kept .base + r .eip % 4096) p = rw ei′ at fast in
+        let f = g .doubles doubling in
+        let few : p .access < 3 = omega (arith, f .0) in
+        quick-step m size e r d k small page room p nowhere (λ a. doubledAfter p (from d e r p)) (f .1 _ _ (view m (d .control)) (shown m size e r d k small page room)) (none-reached m (d .control) p nowhere (f .0) refl)
+        (omega arith) good 0 r′ (λ h. absurd (false≢true (sym (few-stores p few) ∙ h))) (sym (few-saved p few 0 0 m)) (doubled d e r p r′ ee ei es);
+    not = λ h. absurd (false≢true (sym h));
+    kept = kept′;
+  }
 
   -- the instruction's bytes are there
   pub room-for : (i : ℕ) → r .eip < 4294967296 → r .eip / 4096 ≡ r .kept .page → r .eip % 4096 ≤ 4080 → i ≡ r .kept .base + r .eip % 4096 → i + 16 ≤ length m

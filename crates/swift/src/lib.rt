@@ -208,6 +208,10 @@ fn hop(mem: &mut [u8], t: &[u8; 512], e: &mut [u32], c: Control, r: Rest) -> Swi
     let h = r.kept;
     let p = shortcut::quick(mem, t, e, f, eip, h.base as usize + (eip % 4096) as usize);
     if !p.taken {
+        if p.doubling {
+            let g = shortcut::effect::double(e, p, f);
+            return moved(p.next, g, h);
+        }
         return unmoved(r);
     }
     if p.jumps {

@@ -1,5 +1,5 @@
 use Rattle.shortcut.specs.Shortcut.{depositOf}
-use Rattle.swift.proofs.Swiftly.{unmoved, hopped, few-hopped, jumped, room-for}
+use Rattle.swift.proofs.Swiftly.{unmoved, hopped, few-hopped, jumped, double-hopped, room-for}
 use borrow.Author.Needs.{needs}
 use borrow.Author.Tests.{not-false}
 use mathlib.Core.Path.{refl, ap, _∙_}
@@ -18,8 +18,11 @@ add-quick c = search needs
 quick-requires : tie.Need-quick-requires
 quick-requires c κs = (room-for _ ((c .before .before .before .before .before .before .before .args .e .now)) ((c .before .before .before .before .before .before .before .args .c)) ((c .before .before .before .before .before .before .before .args .r)) ((c .before .before .before .before .before .before .before .pre .1 .1 .0)) _ ((c .before .before .before .before .before .before .before .pre .1 .1 .1 .1 .1)) ((c .before .before .before .before .before .before .before .pre .1 .1 .1 .0)) ((c .before .before .before .before .before .before .before .pre .1 .1 .1 .1 .0)) refl, ((c .before .before .before .before .before .before .before .pre .1 .0)))
 
-unmoved-requires : tie.Need-unmoved-requires
-unmoved-requires c κs = search needs
+double-requires : tie.Need-double-requires
+double-requires c κs = search needs
+
+moved-requires : tie.Need-moved-requires
+moved-requires c κs = search needs
 
 same-length : tie.Need-same-length
 same-length c = search needs
@@ -28,10 +31,10 @@ same-length-2 : tie.Need-same-length-2
 same-length-2 c = search needs
 
 returns : tie.Need-returns
-returns c = rw ((c .unmoved .ensures)) (unmoved _ _ ((c .before .before .before .before .before .before .before .before .before .before .before .args .c)) ((c .before .before .before .before .before .before .before .before .before .before .before .args .r)) ((c .before .before .before .before .before .before .before .before .before .before .before .pre .1 .1 .0)))
+returns c = rw ((c .moved .ensures)) (double-hopped _ _ ((c .before .before .before .before .before .before .before .before .before .before .before .before .before .before .before .before .args .c)) ((c .before .before .before .before .before .before .before .before .before .before .before .before .before .before .before .before .args .r)) ((c .before .before .before .before .before .before .before .before .before .before .before .before .before .before .before .before .pre .1 .1 .0)) ((c .before .before .before .before .before .before .before .before .before .before .before .before .before .before .before .before .pre .0)) ((c .before .before .before .before .before .before .before .before .before .before .before .before .before .before .before .before .pre .1 .1 .1 .1 .1)) ((c .before .before .before .before .before .before .before .before .before .before .before .before .before .before .before .before .pre .1 .1 .1 .0)) ((c .before .before .before .before .before .before .before .before .before .before .before .before .before .before .before .before .pre .1 .1 .1 .1 .0)) _ ((c .before .before .before .before .before .before .before .before .quick .result)) refl ((c .before .before .before .before .before .before .before .before .quick .ensures)) ((c .before .before .before .before .before .if2 .taken)) _ ((c .before .before .before .double .ensures .0)) refl ((c .before .before .before .double .ensures .1)) ((c .before .before .before .before .before .before .before .before .before .before .before .before .before .before .before .before .pre .1 .1 .0)))
 
-moved-requires : tie.Need-moved-requires
-moved-requires c κs = search needs
+unmoved-requires : tie.Need-unmoved-requires
+unmoved-requires c κs = search needs
 
 same-length-3 : tie.Need-same-length-3
 same-length-3 c = search needs
@@ -40,13 +43,10 @@ same-length-4 : tie.Need-same-length-4
 same-length-4 c = search needs
 
 returns-2 : tie.Need-returns-2
-returns-2 c = rw ((c .moved .ensures)) (jumped _ _ ((c .before .before .before .before .before .before .before .before .before .before .before .before .args .c)) ((c .before .before .before .before .before .before .before .before .before .before .before .before .args .r)) ((c .before .before .before .before .before .before .before .before .before .before .before .before .pre .1 .1 .0)) ((c .before .before .before .before .before .before .before .before .before .before .before .before .pre .0)) ((c .before .before .before .before .before .before .before .before .before .before .before .before .pre .1 .1 .1 .1 .1)) ((c .before .before .before .before .before .before .before .before .before .before .before .before .pre .1 .1 .1 .0)) ((c .before .before .before .before .before .before .before .before .before .before .before .before .pre .1 .1 .1 .1 .0)) _ ((c .before .before .before .before .quick .result)) refl ((c .before .before .before .before .quick .ensures)) (not-false _ ((c .before .before .if1 .left))) ((c .before .if2 .taken)) _ refl refl ((c .before .before .before .before .before .before .before .before .before .before .before .before .pre .1 .1 .0)))
+returns-2 c = rw ((c .unmoved .ensures)) (unmoved _ _ ((c .before .before .before .before .before .before .before .before .before .before .before .before .args .c)) ((c .before .before .before .before .before .before .before .before .before .before .before .before .args .r)) ((c .before .before .before .before .before .before .before .before .before .before .before .before .pre .1 .1 .0)))
 
-seek-requires : tie.Need-seek-requires
-seek-requires c κs = search needs
-
-unmoved-requires-2 : tie.Need-unmoved-requires-2
-unmoved-requires-2 c κs = search needs
+moved-requires-2 : tie.Need-moved-requires-2
+moved-requires-2 c κs = search needs
 
 same-length-5 : tie.Need-same-length-5
 same-length-5 c = search needs
@@ -55,16 +55,13 @@ same-length-6 : tie.Need-same-length-6
 same-length-6 c = search needs
 
 returns-3 : tie.Need-returns-3
-returns-3 c = rw ((c .unmoved2 .ensures)) (unmoved _ _ ((c .before .before .before .before .before .before .before .before .before .before .before .before .before .before .before .before .args .c)) ((c .before .before .before .before .before .before .before .before .before .before .before .before .before .before .before .before .args .r)) ((c .before .before .before .before .before .before .before .before .before .before .before .before .before .before .before .before .pre .1 .1 .0)))
+returns-3 c = rw ((c .moved2 .ensures)) (jumped _ _ ((c .before .before .before .before .before .before .before .before .before .before .before .before .args .c)) ((c .before .before .before .before .before .before .before .before .before .before .before .before .args .r)) ((c .before .before .before .before .before .before .before .before .before .before .before .before .pre .1 .1 .0)) ((c .before .before .before .before .before .before .before .before .before .before .before .before .pre .0)) ((c .before .before .before .before .before .before .before .before .before .before .before .before .pre .1 .1 .1 .1 .1)) ((c .before .before .before .before .before .before .before .before .before .before .before .before .pre .1 .1 .1 .0)) ((c .before .before .before .before .before .before .before .before .before .before .before .before .pre .1 .1 .1 .1 .0)) _ ((c .before .before .before .before .quick .result)) refl ((c .before .before .before .before .quick .ensures)) (not-false _ ((c .before .before .if1 .left))) ((c .before .if3 .taken)) _ refl refl ((c .before .before .before .before .before .before .before .before .before .before .before .before .pre .1 .1 .0)))
 
-result-requires : tie.Need-result-requires
-result-requires c κs = search needs
+seek-requires : tie.Need-seek-requires
+seek-requires c κs = search needs
 
-deposit-requires : tie.Need-deposit-requires
-deposit-requires c κs = search needs
-
-moved-requires-2 : tie.Need-moved-requires-2
-moved-requires-2 c κs = search needs
+unmoved-requires-2 : tie.Need-unmoved-requires-2
+unmoved-requires-2 c κs = search needs
 
 same-length-7 : tie.Need-same-length-7
 same-length-7 c = search needs
@@ -73,7 +70,25 @@ same-length-8 : tie.Need-same-length-8
 same-length-8 c = search needs
 
 returns-4 : tie.Need-returns-4
-returns-4 c = rw ((c .moved2 .ensures)) (few-hopped _ _ ((c .before .before .before .before .before .before .before .before .before .before .before .before .before .before .before .before .before .before .before .before .before .before .before .before .args .c)) ((c .before .before .before .before .before .before .before .before .before .before .before .before .before .before .before .before .before .before .before .before .before .before .before .before .args .r)) ((c .before .before .before .before .before .before .before .before .before .before .before .before .before .before .before .before .before .before .before .before .before .before .before .before .pre .1 .1 .0)) ((c .before .before .before .before .before .before .before .before .before .before .before .before .before .before .before .before .before .before .before .before .before .before .before .before .pre .0)) ((c .before .before .before .before .before .before .before .before .before .before .before .before .before .before .before .before .before .before .before .before .before .before .before .before .pre .1 .1 .1 .1 .1)) ((c .before .before .before .before .before .before .before .before .before .before .before .before .before .before .before .before .before .before .before .before .before .before .before .before .pre .1 .1 .1 .0)) ((c .before .before .before .before .before .before .before .before .before .before .before .before .before .before .before .before .before .before .before .before .before .before .before .before .pre .1 .1 .1 .1 .0)) _ ((c .before .before .before .before .before .before .before .before .before .before .before .before .before .before .before .before .quick .result)) refl ((c .before .before .before .before .before .before .before .before .before .before .before .before .before .before .before .before .quick .ensures)) (not-false _ ((c .before .before .before .before .before .before .before .before .before .before .before .before .before .before .if1 .left))) ((c .before .before .before .before .before .before .before .before .before .before .before .seek .result)) ((c .before .before .before .before .before .before .before .before .before .before .before .seek .ensures .1 .1) (not-false _ ((c .before .before .before .before .before .before .before .before .before .if3 .left)))) (c .before .before .before .before .before .before .before .before .before .before .before .seek .ensures .1 .0) ((c .before .before .before .before .before .if4 .taken)) _ ((c .before .before .before .before .before .before .before .before .result .ensures)) ((c .before .before .before .deposit .ensures)) refl refl ((c .before .before .before .before .before .before .before .before .before .before .before .before .before .before .before .before .before .before .before .before .before .before .before .before .pre .1 .1 .0)))
+returns-4 c = rw ((c .unmoved2 .ensures)) (unmoved _ _ ((c .before .before .before .before .before .before .before .before .before .before .before .before .before .before .before .before .args .c)) ((c .before .before .before .before .before .before .before .before .before .before .before .before .before .before .before .before .args .r)) ((c .before .before .before .before .before .before .before .before .before .before .before .before .before .before .before .before .pre .1 .1 .0)))
+
+result-requires : tie.Need-result-requires
+result-requires c κs = search needs
+
+deposit-requires : tie.Need-deposit-requires
+deposit-requires c κs = search needs
+
+moved-requires-3 : tie.Need-moved-requires-3
+moved-requires-3 c κs = search needs
+
+same-length-9 : tie.Need-same-length-9
+same-length-9 c = search needs
+
+same-length-10 : tie.Need-same-length-10
+same-length-10 c = search needs
+
+returns-5 : tie.Need-returns-5
+returns-5 c = rw ((c .moved3 .ensures)) (few-hopped _ _ ((c .before .before .before .before .before .before .before .before .before .before .before .before .before .before .before .before .before .before .before .before .before .before .before .before .args .c)) ((c .before .before .before .before .before .before .before .before .before .before .before .before .before .before .before .before .before .before .before .before .before .before .before .before .args .r)) ((c .before .before .before .before .before .before .before .before .before .before .before .before .before .before .before .before .before .before .before .before .before .before .before .before .pre .1 .1 .0)) ((c .before .before .before .before .before .before .before .before .before .before .before .before .before .before .before .before .before .before .before .before .before .before .before .before .pre .0)) ((c .before .before .before .before .before .before .before .before .before .before .before .before .before .before .before .before .before .before .before .before .before .before .before .before .pre .1 .1 .1 .1 .1)) ((c .before .before .before .before .before .before .before .before .before .before .before .before .before .before .before .before .before .before .before .before .before .before .before .before .pre .1 .1 .1 .0)) ((c .before .before .before .before .before .before .before .before .before .before .before .before .before .before .before .before .before .before .before .before .before .before .before .before .pre .1 .1 .1 .1 .0)) _ ((c .before .before .before .before .before .before .before .before .before .before .before .before .before .before .before .before .quick .result)) refl ((c .before .before .before .before .before .before .before .before .before .before .before .before .before .before .before .before .quick .ensures)) (not-false _ ((c .before .before .before .before .before .before .before .before .before .before .before .before .before .before .if1 .left))) ((c .before .before .before .before .before .before .before .before .before .before .before .seek .result)) (((c .before .before .before .before .before .before .before .before .before .before .before .seek .ensures .1 .1)) (not-false _ ((c .before .before .before .before .before .before .before .before .before .if4 .left)))) ((c .before .before .before .before .before .before .before .before .before .before .before .seek .ensures .1 .0)) ((c .before .before .before .before .before .if5 .taken)) _ ((c .before .before .before .before .before .before .before .before .result .ensures)) ((c .before .before .before .deposit .ensures)) refl refl ((c .before .before .before .before .before .before .before .before .before .before .before .before .before .before .before .before .before .before .before .before .before .before .before .before .pre .1 .1 .0)))
 
 restack-requires : tie.Need-restack-requires
 restack-requires c κs = search needs
@@ -87,17 +102,17 @@ save-requires c κs = (((c .before .before .before .before .before .before .befo
 next-requires : tie.Need-next-requires
 next-requires c κs = search needs
 
-moved-requires-3 : tie.Need-moved-requires-3
-moved-requires-3 c κs = search needs
+moved-requires-4 : tie.Need-moved-requires-4
+moved-requires-4 c κs = search needs
 
-same-length-9 : tie.Need-same-length-9
-same-length-9 c = search needs
+same-length-11 : tie.Need-same-length-11
+same-length-11 c = search needs
 
-same-length-10 : tie.Need-same-length-10
-same-length-10 c = search needs
+same-length-12 : tie.Need-same-length-12
+same-length-12 c = search needs
 
-returns-5 : tie.Need-returns-5
-returns-5 c = rw ((c .moved3 .ensures)) (hopped _ _ ((c .before .before .before .before .before .before .before .before .before .before .before .before .before .before .before .before .before .before .before .before .before .before .before .before .before .before .before .before .before .before .before .before .before .args .c)) ((c .before .before .before .before .before .before .before .before .before .before .before .before .before .before .before .before .before .before .before .before .before .before .before .before .before .before .before .before .before .before .before .before .before .args .r)) ((c .before .before .before .before .before .before .before .before .before .before .before .before .before .before .before .before .before .before .before .before .before .before .before .before .before .before .before .before .before .before .before .before .before .pre .1 .1 .0)) ((c .before .before .before .before .before .before .before .before .before .before .before .before .before .before .before .before .before .before .before .before .before .before .before .before .before .before .before .before .before .before .before .before .before .pre .0)) ((c .before .before .before .before .before .before .before .before .before .before .before .before .before .before .before .before .before .before .before .before .before .before .before .before .before .before .before .before .before .before .before .before .before .pre .1 .1 .1 .1 .1)) ((c .before .before .before .before .before .before .before .before .before .before .before .before .before .before .before .before .before .before .before .before .before .before .before .before .before .before .before .before .before .before .before .before .before .pre .1 .1 .1 .0)) ((c .before .before .before .before .before .before .before .before .before .before .before .before .before .before .before .before .before .before .before .before .before .before .before .before .before .before .before .before .before .before .before .before .before .pre .1 .1 .1 .1 .0)) _ ((c .before .before .before .before .before .before .before .before .before .before .before .before .before .before .before .before .before .before .before .before .before .before .before .before .before .quick .result)) ((c .before .before .before .before .before .before .before .before .before .before .before .before .before .before .before .before .before .before .before .before .seek .result)) refl ((c .before .before .before .before .before .before .before .before .before .before .before .before .before .before .before .before .before .before .before .before .before .before .before .before .before .quick .ensures)) (not-false _ ((c .before .before .before .before .before .before .before .before .before .before .before .before .before .before .before .before .before .before .before .before .before .before .before .if1 .left))) ((c .before .before .before .before .before .before .before .before .before .before .before .before .before .before .before .before .before .before .before .before .seek .ensures .1 .1) (not-false _ ((c .before .before .before .before .before .before .before .before .before .before .before .before .before .before .before .before .before .before .if3 .left)))) (c .before .before .before .before .before .before .before .before .before .before .before .before .before .before .before .before .before .before .before .before .seek .ensures .1 .0) _ ((c .before .before .before .before .before .before .before .before .before .before .before .before .before .before .before .before .before .result .ensures)) ((c .before .before .before .before .save .ensures .0)) (((c .before .before .before .before .before .before .before .before .deposit2 .ensures)) ∙ ap (λ (x : _). depositOf ((c .before .before .before .before .before .before .before .before .before .before .before .before .before .before .before .before .before .before .before .before .before .before .before .before .before .quick .result)) (record { e = x }) ((c .before .before .before .before .before .before .before .before .before .before .before .before .before .before .before .before .before .result .result .value)) .e) ((c .before .before .before .before .before .before .before .before .before .before .before .before .restack .ensures))) ((c .before .next .ensures)) refl ((c .before .before .before .before .save .ensures .1)))
+returns-6 : tie.Need-returns-6
+returns-6 c = rw ((c .moved4 .ensures)) (hopped _ _ ((c .before .before .before .before .before .before .before .before .before .before .before .before .before .before .before .before .before .before .before .before .before .before .before .before .before .before .before .before .before .before .before .before .before .args .c)) ((c .before .before .before .before .before .before .before .before .before .before .before .before .before .before .before .before .before .before .before .before .before .before .before .before .before .before .before .before .before .before .before .before .before .args .r)) ((c .before .before .before .before .before .before .before .before .before .before .before .before .before .before .before .before .before .before .before .before .before .before .before .before .before .before .before .before .before .before .before .before .before .pre .1 .1 .0)) ((c .before .before .before .before .before .before .before .before .before .before .before .before .before .before .before .before .before .before .before .before .before .before .before .before .before .before .before .before .before .before .before .before .before .pre .0)) ((c .before .before .before .before .before .before .before .before .before .before .before .before .before .before .before .before .before .before .before .before .before .before .before .before .before .before .before .before .before .before .before .before .before .pre .1 .1 .1 .1 .1)) ((c .before .before .before .before .before .before .before .before .before .before .before .before .before .before .before .before .before .before .before .before .before .before .before .before .before .before .before .before .before .before .before .before .before .pre .1 .1 .1 .0)) ((c .before .before .before .before .before .before .before .before .before .before .before .before .before .before .before .before .before .before .before .before .before .before .before .before .before .before .before .before .before .before .before .before .before .pre .1 .1 .1 .1 .0)) _ ((c .before .before .before .before .before .before .before .before .before .before .before .before .before .before .before .before .before .before .before .before .before .before .before .before .before .quick .result)) ((c .before .before .before .before .before .before .before .before .before .before .before .before .before .before .before .before .before .before .before .before .seek .result)) refl ((c .before .before .before .before .before .before .before .before .before .before .before .before .before .before .before .before .before .before .before .before .before .before .before .before .before .quick .ensures)) (not-false _ ((c .before .before .before .before .before .before .before .before .before .before .before .before .before .before .before .before .before .before .before .before .before .before .before .if1 .left))) (((c .before .before .before .before .before .before .before .before .before .before .before .before .before .before .before .before .before .before .before .before .seek .ensures .1 .1)) (not-false _ ((c .before .before .before .before .before .before .before .before .before .before .before .before .before .before .before .before .before .before .if4 .left)))) ((c .before .before .before .before .before .before .before .before .before .before .before .before .before .before .before .before .before .before .before .before .seek .ensures .1 .0)) _ ((c .before .before .before .before .before .before .before .before .before .before .before .before .before .before .before .before .before .result .ensures)) ((c .before .before .before .before .save .ensures .0)) (((c .before .before .before .before .before .before .before .before .deposit2 .ensures)) ∙ ap (λ (x : _). depositOf ((c .before .before .before .before .before .before .before .before .before .before .before .before .before .before .before .before .before .before .before .before .before .before .before .before .before .quick .result)) (record { e = x }) ((c .before .before .before .before .before .before .before .before .before .before .before .before .before .before .before .before .before .result .result .value)) .e) ((c .before .before .before .before .before .before .before .before .before .before .before .before .restack .ensures))) ((c .before .next .ensures)) refl ((c .before .before .before .before .save .ensures .1)))
 
 pub hop-spec : {M : Type 1} → statement M
 hop-spec =
@@ -107,30 +122,35 @@ hop-spec =
     cast-quick-2
     add-quick
     quick-requires
-    unmoved-requires
+    double-requires
+    moved-requires
     same-length
     same-length-2
     returns
-    moved-requires
+    unmoved-requires
     same-length-3
     same-length-4
     returns-2
-    seek-requires
-    unmoved-requires-2
+    moved-requires-2
     same-length-5
     same-length-6
     returns-3
-    result-requires
-    deposit-requires
-    moved-requires-2
+    seek-requires
+    unmoved-requires-2
     same-length-7
     same-length-8
     returns-4
+    result-requires
+    deposit-requires
+    moved-requires-3
+    same-length-9
+    same-length-10
+    returns-5
     restack-requires
     deposit-requires-2
     save-requires
     next-requires
-    moved-requires-3
-    same-length-9
-    same-length-10
-    returns-5)
+    moved-requires-4
+    same-length-11
+    same-length-12
+    returns-6)
