@@ -1,10 +1,10 @@
 -- Decoding where all the bytes are shown: one fetch after another, to the instruction.
 -- Assumes nothing.
-use Prim.Native.Nat.{ℕ, _+_, _/_, _%_, _<_}
+use Prim.Native.Nat.{ℕ, _+_, _/_, _%_, _<_, _≤_}
 use mathlib.Core.Path.{_≡_, refl}
 use mathlib.Core.Bool.{Bool, true, false, cond, _&&_}
 use native.Mathlib.Omega.{arith}
-use borrow.Author.Tests.{lt-ltb}
+use borrow.Author.Tests.{lt-ltb, ne-eqb}
 use lib.Dec.{leb, eqb}
 use Rattle.machine.specs.Record.{Mem, at}
 use Rattle.machine.specs.Paging.{View, dwordAt}
@@ -99,6 +99,15 @@ module _ (v : View) (m : Mem) (eip i : ℕ) (sh : Shows v m eip i) where
     pub noEscape : eqb c escape ≡ false
     pub built : eqb c notBuilt ≡ false
     pub defined : eqb c undefined ≡ false
+
+  -- the classes that are not are below four
+  pub own : (c : ℕ) → classOf o ≡ c → 4 ≤ c → Plain c
+  own c h l =
+      let n0 : c ≡ notBuilt → ⊥ = λ z. omega arith in
+      let n1 : c ≡ override → ⊥ = λ z. omega arith in
+      let n2 : c ≡ escape → ⊥ = λ z. omega arith in
+      let n3 : c ≡ undefined → ⊥ = λ z. omega arith in
+      record { isClass = h; noOverride = ne-eqb _ _ n1; noEscape = ne-eqb _ _ n2; built = ne-eqb _ _ n0; defined = ne-eqb _ _ n3 }
 
   pub with-modrm : (c x n : ℕ) → Plain c → hasModrm c ≡ true → undefinedForm c b₁ ≡ false → unbuiltForm c b₁ ≡ false
       → number eip (immediateBytes c o (regField b₁)) v (logAt eip (upTo m i b₁)) ≡ ok x (logAt eip n)

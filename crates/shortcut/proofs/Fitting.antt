@@ -40,6 +40,10 @@ pub record Shifting (g : ℕ) : Type 0 where
   pub writing : writes (8 + g) ≡ true
   pub back : (8 + g) % 8 ≡ g
 
+-- an instruction of two operands
+abbrev pub combiningAt : Mem → ℕ → ℕ → ℕ → ℕ → ℕ → Instruction
+combiningAt m i f op x n = record { family = f; operation = op; wide = isOdd (at m i); register = regField (at m (i + 1)); operand = operandAt m (i + 2) (at m (i + 1)); immediate = x; length = n }
+
 module _ (v : View) (m : Mem) (e : List ℕ) (s : Status) (eip i : ℕ) (int dir : Bool) where
   abbrev k : Core
   k = coreFrom e eip s int dir
@@ -50,9 +54,8 @@ module _ (v : View) (m : Mem) (e : List ℕ) (s : Status) (eip i : ℕ) (int dir
   abbrev md : ℕ
   md = at m (i + 1)
 
-  -- an instruction of two operands
   abbrev pub combining : ℕ → ℕ → ℕ → ℕ → Instruction
-  combining f op x n = record { family = f; operation = op; wide = isOdd b; register = regField md; operand = operandAt m (i + 2) md; immediate = x; length = n }
+  combining f op x n = combiningAt m i f op x n
 
   direct : {d : Bool} → isDirect md ≡ d → operandAt m (i + 2) md .direct ≡ d
   direct h = operand-direct m (i + 2) md ∙ h

@@ -1,32 +1,34 @@
 -- Each encoding that is taken: from the bytes that the code read to the instruction in its short form.
 -- Assumes nothing.
 use Prim.Native.Nat.{ℕ, _+_, _/_, _%_, _<_, _≤_}
-use mathlib.Core.Path.{_≡_, refl, sym, subst, ap, _∙_}
-use mathlib.Core.Bool.{_&&_, Bool, true, false, cond, _||_, false≢true, not}
+use mathlib.Core.Path.{_≡_, refl, sym, ap, _∙_}
+use mathlib.Core.Bool.{_&&_, Bool, true, false, cond, _||_, false≢true}
 use mathlib.Core.List.{List}
 use native.Mathlib.Omega.{arith}
-use borrow.Author.Tests.{lt-ltb, le-ltb, lt-leb, eq-eqb, ne-eqb, eqb-true, ltb-false, not-false}
+use borrow.Author.Tests.{lt-ltb, le-ltb, lt-leb, eq-eqb, ne-eqb, eqb-true, ltb-false}
 use lib.Dec.{ltb, leb, eqb}
 use Rattle.alu.specs.declared.Status.{Status}
 use Rattle.conditions.specs.Conditions.{holds}
 use Rattle.machine.specs.Record.{Mem, at, wrap, register, readAt}
 use Rattle.machine.specs.Paging.{View, dwordAt}
+use Rattle.alu.specs.Arithmetic.{operate, operation}
+use Rattle.encoding.specs.declared.Instruction.{Instruction}
 use Rattle.encoding.specs.Encodings.{classOf}
-use Rattle.encoding.specs.Attributes.{familyOf, operationOf as operationIn, arithmeticFamily, moveFamily, flowFamily, longOpcode}
+use Rattle.encoding.specs.Attributes.{regField, hasModrm, undefinedForm, unbuiltForm, isWide, immediateBytes, immediateOf, familyOf, operationOf as operationIn, arithmeticFamily, moveFamily, flowFamily, longOpcode}
 use Rattle.machine.specs.Act.{ok}
-use Rattle.decode.specs.Decode.{signed, decode}
+use Rattle.decode.specs.Decode.{signed, number, decode}
 use Rattle.decode.specs.Read.{logAt}
 use Rattle.execute.specs.Execute.{first, second, writesOperand, computeArithmetic, compute}
 use Rattle.arithmetic.specs.Arithmetic.{doCombineTo, doCombineImmediate, doShift}
 use Rattle.shortcut.specs.declared.Fast.{Fast}
-use Rattle.shortcut.specs.Bytes.{Shows}
-use Rattle.shortcut.specs.Forms.{file, isDirect, upTo, numberAt, operationOf, placesAt, placesFast, timesFast, doubleFast, leftFast, toFast, fromFast, numberFast, addressFast, loadFast, countFast, jumpFast, pushFast, popFast, isOdd}
+use Rattle.shortcut.specs.Bytes.{Shows, operandAt}
+use Rattle.shortcut.specs.Forms.{file, isDirect, isOdd, upTo, numberAt, operationOf, placesAt, placesFast, timesFast, doubleFast, leftFast, toFast, fromFast, numberFast, addressFast, registerFast, loadFast, accumulatorFast, countFast, jumpFast, pushFast, popFast}
 use Rattle.shortcut.specs.Shortcut.{Fits, coreFrom, Idle, FastOk}
 use Rattle.shortcut.proofs.Small.{operand-few}
-use Rattle.shortcut.proofs.Decoded.{number-none, number-one, number-four, number-long, with-modrm, without-modrm}
-use Rattle.shortcut.proofs.Fitting.{left-fits, first-to, first-number, from-fits, address-fits, Shifting, shift-fits, times-fits}
+use Rattle.shortcut.proofs.Decoded.{number-none, number-one, number-four, number-long, own, with-modrm, without-modrm}
+use Rattle.shortcut.proofs.Fitting.{below-eight, combiningAt, left-fits, first-to, first-number, from-fits, address-fits, Shifting, shift-fits, times-fits}
 use Rattle.shortcut.proofs.Doubling.{double-fits}
-use Rattle.shortcut.proofs.Singles.{naming, load-fits, inc-fits, dec-fits, jump-fits, jump-on, jump-off, push-fits, call-fits, pop-fits, return-fits}
+use Rattle.shortcut.proofs.Singles.{naming, register-fits, inc-fits, dec-fits, jump-fits, jump-on, jump-off, push-fits, push-number-fits, call-fits, pop-fits, return-fits}
 
 pub not-taken : (m : Mem) (e : List ℕ) (s : Status) (eip i : ℕ) (p : Fast) → (p .taken ≡ false) × ((p .jumps ≡ false) × (p .doubling ≡ false)) → FastOk m e s eip i p
 not-taken m e s eip i p h = record { fits = λ t. absurd (false≢true (sym (h .0) ∙ t)); idle = λ t. absurd (false≢true (sym (h .1 .0) ∙ t)); doubles = λ t. absurd (false≢true (sym (h .1 .1) ∙ t)) }
@@ -91,52 +93,73 @@ module _ (m : Mem) (e : List ℕ) (s : Status) (eip i : ℕ) where
 
   -- ---- with ModRM
 
+  -- what the decoder reads, whatever shows the bytes
+  abbrev Reads : Instruction → ℕ → Type 0
+  Reads r n = (v : View) → Shows v m eip i → decode eip v (logAt eip 0) ≡ ok r (logAt eip n)
+
+  -- a class with ModRM, no immediate and no form that is refused
+  bare : (c : ℕ) → classOf b ≡ c → 4 ≤ c → hasModrm c ≡ true → undefinedForm c md ≡ false → unbuiltForm c md ≡ false → immediateBytes c b (regField md) ≡ 0
+      → Reads
+      (record { family = familyOf c (regField md); operation = operationIn c b (regField md); wide = isWide c b; register = regField md; operand = operandAt m (i + 2) md; immediate = immediateOf c 0; length = upTo m i md })
+      (upTo m i md)
+  bare c h l r u w n v sh = with-modrm v m eip i sh c 0 _ (own v m eip i sh c h l) r u w (rw n (number-none v m eip i sh _))
+
+  to-read : (op : ℕ) → ltb op 10 ≡ true → Reads (combiningAt m i 1 op 0 (upTo m i md)) (upTo m i md) → FastOk m e s eip i (toFast m e eip i op b md)
+  unfolding second compute computeArithmetic doCombineTo leftFast
+  to-read op low de = working m e s eip i _ (refl, refl) λ int dir v sh.
+      left-fits v m e s eip i int dir 1 op 0 _ (upTo m i md) low (de v sh) (λ _ _. refl) (first-to v m e s eip i int dir _ _ _) refl (λ a. refl)
+
   to-4 : classOf b ≡ 4 → FastOk m e s eip i (toFast m e eip i (b / 8 % 8) b md)
-  unfolding familyOf operationIn second compute computeArithmetic doCombineTo leftFast
-  to-4 h = working m e s eip i _ (refl, refl) λ int dir v sh.
-      left-fits v m e s eip i int dir 1 (b / 8 % 8) 0 _ (upTo m i md) (under-ten (b / 8))
-      (with-modrm v m eip i sh 4 0 _ (record { isClass = h; noOverride = refl; noEscape = refl; built = refl; defined = refl }) refl refl refl (number-none v m eip i sh _))
-      (λ _ _. refl) (first-to v m e s eip i int dir _ _ _) refl (λ a. refl)
+  unfolding familyOf operationIn
+  to-4 h = to-read (b / 8 % 8) (under-ten (b / 8)) (bare 4 h (omega arith) refl refl refl refl)
 
   to-8 : classOf b ≡ 8 → FastOk m e s eip i (toFast m e eip i 8 b md)
-  unfolding familyOf operationIn second compute computeArithmetic doCombineTo leftFast
-  to-8 h = working m e s eip i _ (refl, refl) λ int dir v sh.
-      left-fits v m e s eip i int dir 1 8 0 _ (upTo m i md) refl
-      (with-modrm v m eip i sh 8 0 _ (record { isClass = h; noOverride = refl; noEscape = refl; built = refl; defined = refl }) refl refl refl (number-none v m eip i sh _))
-      (λ _ _. refl) (first-to v m e s eip i int dir _ _ _) refl (λ a. refl)
+  unfolding familyOf operationIn
+  to-8 h = to-read 8 refl (bare 8 h (omega arith) refl refl refl refl)
 
   to-11 : classOf b ≡ 11 → FastOk m e s eip i (toFast m e eip i 9 b md)
-  unfolding familyOf operationIn second compute computeArithmetic doCombineTo leftFast
-  to-11 h = working m e s eip i _ (refl, refl) λ int dir v sh.
-      left-fits v m e s eip i int dir 1 9 0 _ (upTo m i md) refl
-      (with-modrm v m eip i sh 11 0 _ (record { isClass = h; noOverride = refl; noEscape = refl; built = refl; defined = refl }) refl refl refl (number-none v m eip i sh _))
-      (λ _ _. refl) (first-to v m e s eip i int dir _ _ _) refl (λ a. refl)
+  unfolding familyOf operationIn
+  to-11 h = to-read 9 refl (bare 11 h (omega arith) refl refl refl refl)
+
+  from-read : (op : ℕ) → ltb op 10 ≡ true → Reads (combiningAt m i 2 op 0 (upTo m i md)) (upTo m i md) → FastOk m e s eip i (fromFast m e eip i op b md)
+  unfolding fromFast
+  from-read op low de = working m e s eip i _ (refl, refl) λ int dir v sh. from-fits v m e s eip i int dir op 0 _ low refl (de v sh)
 
   from-5 : classOf b ≡ 5 → FastOk m e s eip i (fromFast m e eip i (b / 8 % 8) b md)
-  unfolding familyOf operationIn fromFast
-  from-5 h = working m e s eip i _ (refl, refl) λ int dir v sh.
-      from-fits v m e s eip i int dir (b / 8 % 8) 0 _ (under-ten (b / 8)) refl
-      (with-modrm v m eip i sh 5 0 _ (record { isClass = h; noOverride = refl; noEscape = refl; built = refl; defined = refl }) refl refl refl (number-none v m eip i sh _))
+  unfolding familyOf operationIn
+  from-5 h = from-read (b / 8 % 8) (under-ten (b / 8)) (bare 5 h (omega arith) refl refl refl refl)
 
   from-12 : classOf b ≡ 12 → FastOk m e s eip i (fromFast m e eip i 9 b md)
-  unfolding familyOf operationIn fromFast
-  from-12 h = working m e s eip i _ (refl, refl) λ int dir v sh.
-      from-fits v m e s eip i int dir 9 0 _ refl refl
-      (with-modrm v m eip i sh 12 0 _ (record { isClass = h; noOverride = refl; noEscape = refl; built = refl; defined = refl }) refl refl refl (number-none v m eip i sh _))
+  unfolding familyOf operationIn
+  from-12 h = from-read 9 refl (bare 12 h (omega arith) refl refl refl refl)
 
   address-19 : classOf b ≡ 19 → isDirect md ≡ false → FastOk m e s eip i (addressFast m e eip i md)
   unfolding familyOf operationIn arithmeticFamily moveFamily addressFast
   address-19 h mem = working m e s eip i _ (refl, refl) λ int dir v sh.
       address-fits v m e s eip i int dir (b % 16) 0 _ refl mem
-      (with-modrm v m eip i sh 19 0 _ (record { isClass = h; noOverride = refl; noEscape = refl; built = refl; defined = refl }) refl (rw mem) refl (number-none v m eip i sh _))
+      (bare 19 h (omega arith) refl (rw mem) refl refl v sh)
 
-  number-7 : (long : Bool) → classOf b ≡ 7 → longOpcode b ≡ long → FastOk m e s eip i (numberFast m e eip i long b md)
-  unfolding familyOf operationIn second compute computeArithmetic doCombineImmediate leftFast
-  number-7 long h l = working m e s eip i _ (refl, refl) λ int dir v sh.
-      let few = operand-few m (i + 2) md in
-      left-fits v m e s eip i int dir 3 (md / 8 % 8) (numberAt long m (i + upTo m i md)) _ (upTo m i md + cond long 4 1) (under-ten (md / 8))
-      (with-modrm v m eip i sh 7 _ _ (record { isClass = h; noOverride = refl; noEscape = refl; built = refl; defined = refl }) refl refl refl (rw l (number-long v m eip i sh long (upTo m i md) (omega (arith, few)))))
-      (λ _ _. refl) (first-number v m e s eip i int dir _ _ _) refl (λ a. refl)
+  -- an immediate after the operand
+  number-read : (op : ℕ) (long : Bool) → ltb op 10 ≡ true → Reads (combiningAt m i 3 op (numberAt long m (i + upTo m i md)) (upTo m i md + cond long 4 1)) (upTo m i md + cond long 4 1)
+      → FastOk m e s eip i (numberFast m e eip i op long b md)
+  unfolding second compute computeArithmetic doCombineImmediate leftFast
+  number-read op long low de = working m e s eip i _ (refl, refl) λ int dir v sh.
+      left-fits v m e s eip i int dir 3 op (numberAt long m (i + upTo m i md)) _ (upTo m i md + cond long 4 1) low (de v sh) (λ _ _. refl) (first-number v m e s eip i int dir _ _ _) refl (λ a. refl)
+
+  after-operand : (long : Bool) (v : View) → Shows v m eip i
+      → number eip (cond long 4 1) v (logAt eip (upTo m i md)) ≡ ok (numberAt long m (i + upTo m i md)) (logAt eip (upTo m i md + cond long 4 1))
+  after-operand long v sh = let few = operand-few m (i + 2) md in number-long v m eip i sh long (upTo m i md) (omega (arith, few))
+
+  number-7 : (long : Bool) → classOf b ≡ 7 → longOpcode b ≡ long → FastOk m e s eip i (numberFast m e eip i (md / 8 % 8) long b md)
+  unfolding familyOf operationIn
+  number-7 long h l = number-read (md / 8 % 8) long (under-ten (md / 8)) λ v sh.
+      with-modrm v m eip i sh 7 _ _ (own v m eip i sh 7 h (omega arith)) refl refl refl (rw l (after-operand long v sh))
+
+  -- another reg field is undefined
+  number-16 : classOf b ≡ 16 → md / 8 % 8 ≡ 0 → FastOk m e s eip i (numberFast m e eip i 9 (isOdd b) b md)
+  unfolding familyOf operationIn
+  number-16 h z = number-read 9 (isOdd b) refl λ v sh.
+      with-modrm v m eip i sh 16 _ _ (own v m eip i sh 16 h (omega arith)) refl (rw (eq-eqb _ _ z)) refl (after-operand (isOdd b) v sh)
 
   -- ---- shifts and products
 
@@ -193,40 +216,62 @@ module _ (m : Mem) (e : List ℕ) (s : Status) (eip i : ℕ) where
   -- ---- without
 
   load-15 : classOf b ≡ 15 → FastOk m e s eip i (loadFast m eip i b)
-  unfolding familyOf operationIn loadFast
+  unfolding familyOf operationIn operate operation registerFast
   load-15 h = working m e s eip i _ (refl, refl) λ int dir v sh.
-      load-fits v m e s eip i int dir
-      (without-modrm v m eip i sh 15 _ _ (record { isClass = h; noOverride = refl; noEscape = refl; built = refl; defined = refl }) refl refl (number-long v m eip i sh (eqb (b / 8 % 2) 1) 1 (omega arith)))
+      register-fits v m e s eip i int dir 9 0 (b % 8) (eqb (b / 8 % 2) 1) refl (below-eight b) (λ _. refl)
+      (without-modrm v m eip i sh 15 _ _ (own v m eip i sh 15 h (omega arith)) refl refl (number-long v m eip i sh (eqb (b / 8 % 2) 1) 1 (omega arith)))
+
+  accumulator-read : (op : ℕ) → ltb op 10 ≡ true → Reads (naming 3 op (isOdd b) 0 (numberAt (isOdd b) m (i + 1)) (1 + cond (isOdd b) 4 1)) (1 + cond (isOdd b) 4 1)
+      → FastOk m e s eip i (accumulatorFast m e eip i op b)
+  unfolding registerFast
+  accumulator-read op low de = working m e s eip i _ (refl, refl) λ int dir v sh. register-fits v m e s eip i int dir op _ 0 (isOdd b) low refl (λ _. refl) (de v sh)
+
+  accumulator-6 : classOf b ≡ 6 → FastOk m e s eip i (accumulatorFast m e eip i (b / 8 % 8) b)
+  unfolding familyOf operationIn
+  accumulator-6 h = accumulator-read (b / 8 % 8) (under-ten (b / 8)) λ v sh.
+      without-modrm v m eip i sh 6 _ _ (own v m eip i sh 6 h (omega arith)) refl refl (number-long v m eip i sh (isOdd b) 1 (omega arith))
+
+  accumulator-9 : classOf b ≡ 9 → FastOk m e s eip i (accumulatorFast m e eip i 8 b)
+  unfolding familyOf operationIn
+  accumulator-9 h = accumulator-read 8 refl λ v sh.
+      without-modrm v m eip i sh 9 _ _ (own v m eip i sh 9 h (omega arith)) refl refl (number-long v m eip i sh (isOdd b) 1 (omega arith))
 
   inc-22 : classOf b ≡ 22 → FastOk m e s eip i (countFast e eip 10 b)
   unfolding familyOf operationIn countFast
   inc-22 h = working m e s eip i _ (refl, refl) λ int dir v sh.
       inc-fits v m e s eip i int dir 0
-      (without-modrm v m eip i sh 22 0 1 (record { isClass = h; noOverride = refl; noEscape = refl; built = refl; defined = refl }) refl refl (number-none v m eip i sh 1))
+      (without-modrm v m eip i sh 22 0 1 (own v m eip i sh 22 h (omega arith)) refl refl (number-none v m eip i sh 1))
 
   dec-23 : classOf b ≡ 23 → FastOk m e s eip i (countFast e eip 11 b)
   unfolding familyOf operationIn countFast
   dec-23 h = working m e s eip i _ (refl, refl) λ int dir v sh.
       dec-fits v m e s eip i int dir 0
-      (without-modrm v m eip i sh 23 0 1 (record { isClass = h; noOverride = refl; noEscape = refl; built = refl; defined = refl }) refl refl (number-none v m eip i sh 1))
+      (without-modrm v m eip i sh 23 0 1 (own v m eip i sh 23 h (omega arith)) refl refl (number-none v m eip i sh 1))
 
   push-26 : classOf b ≡ 26 → register (file e) (b % 8) < 4294967296 → FastOk m e s eip i (pushFast e (register (file e) (b % 8)) (wrap (eip + 1)))
   unfolding familyOf operationIn arithmeticFamily moveFamily pushFast
   push-26 h y = working m e s eip i _ (refl, refl) λ int dir v sh.
       push-fits v m e s eip i int dir (b % 16) (b % 8) 0 1 y
-      (without-modrm v m eip i sh 26 0 1 (record { isClass = h; noOverride = refl; noEscape = refl; built = refl; defined = refl }) refl refl (number-none v m eip i sh 1))
+      (without-modrm v m eip i sh 26 0 1 (own v m eip i sh 26 h (omega arith)) refl refl (number-none v m eip i sh 1))
+
+  push-27 : (long : Bool) → classOf b ≡ 27 → longOpcode b ≡ long → numberAt long m (i + 1) < 4294967296
+      → FastOk m e s eip i (pushFast e (numberAt long m (i + 1)) (wrap (eip + (1 + cond long 4 1))))
+  unfolding familyOf operationIn arithmeticFamily moveFamily pushFast
+  push-27 long h l y = working m e s eip i _ (refl, refl) λ int dir v sh.
+      push-number-fits v m e s eip i int dir (b % 16) 0 (numberAt long m (i + 1)) (1 + cond long 4 1) y
+      (without-modrm v m eip i sh 27 _ _ (own v m eip i sh 27 h (omega arith)) refl refl (rw l (number-long v m eip i sh long 1 (omega arith))))
 
   pop-28 : classOf b ≡ 28 → FastOk m e s eip i (popFast e 5 (b % 8) (wrap (eip + 1)))
   unfolding familyOf operationIn arithmeticFamily moveFamily popFast
   pop-28 h = working m e s eip i _ (refl, refl) λ int dir v sh.
       pop-fits v m e s eip i int dir (b % 16) 0 1
-      (without-modrm v m eip i sh 28 0 1 (record { isClass = h; noOverride = refl; noEscape = refl; built = refl; defined = refl }) refl refl (number-none v m eip i sh 1))
+      (without-modrm v m eip i sh 28 0 1 (own v m eip i sh 28 h (omega arith)) refl refl (number-none v m eip i sh 1))
 
   return-41 : classOf b ≡ 41 → FastOk m e s eip i (popFast e 6 8 (wrap (eip + 1)))
   unfolding familyOf operationIn arithmeticFamily moveFamily flowFamily popFast
   return-41 h = working m e s eip i _ (refl, refl) λ int dir v sh.
       return-fits v m e s eip i int dir (b % 16) 0 1
-      (without-modrm v m eip i sh 41 0 1 (record { isClass = h; noOverride = refl; noEscape = refl; built = refl; defined = refl }) refl refl (number-none v m eip i sh 1))
+      (without-modrm v m eip i sh 41 0 1 (own v m eip i sh 41 h (omega arith)) refl refl (number-none v m eip i sh 1))
 
   -- ---- jumps and calls
 
@@ -234,9 +279,9 @@ module _ (m : Mem) (e : List ℕ) (s : Status) (eip i : ℕ) where
   unfolding familyOf operationIn arithmeticFamily moveFamily flowFamily jumpFast
   jump-36 h l = jumping m e s eip i _ (refl, (refl, refl)) refl λ int dir v sh.
       by int dir v (holds (b % 16) s) refl
-      (without-modrm v m eip i sh 36 (signed md) 2 (record { isClass = h; noOverride = refl; noEscape = refl; built = refl; defined = refl }) refl refl (rw l (number-one v m eip i sh 1 (omega arith))))
+      (without-modrm v m eip i sh 36 (signed md) 2 (own v m eip i sh 36 h (omega arith)) refl refl (rw l (number-one v m eip i sh 1 (omega arith))))
     where
-      by : (int dir : Bool) (v : View) (c : Bool) → holds (b % 16) s ≡ c → decode eip v (logAt eip 0) ≡ ok (naming v m e s eip i int dir 17 (b % 16) true 0 (signed md) 2) (logAt eip 2)
+      by : (int dir : Bool) (v : View) (c : Bool) → holds (b % 16) s ≡ c → decode eip v (logAt eip 0) ≡ ok (naming 17 (b % 16) true 0 (signed md) 2) (logAt eip 2)
           → Fits v (coreFrom e eip s int dir) (jumpFast (cond (holds (b % 16) s) (wrap (wrap (eip + 2) + signed md)) (wrap (eip + 2))))
       by int dir v true y de = rw y (jump-on v m e s eip i int dir (b % 16) 0 (signed md) 2 y de)
       by int dir v false y de = rw y (jump-off v m e s eip i int dir (b % 16) 0 (signed md) 2 y de)
@@ -245,19 +290,19 @@ module _ (m : Mem) (e : List ℕ) (s : Status) (eip i : ℕ) where
   unfolding familyOf operationIn arithmeticFamily moveFamily flowFamily classOf jumpFast
   jump-235 h = jumping m e s eip i _ (refl, (refl, refl)) refl λ int dir v sh.
       jump-fits v m e s eip i int dir (b % 16) 0 (signed md) 2
-      (without-modrm v m eip i sh 39 (signed md) 2 (record { isClass = ap classOf h; noOverride = refl; noEscape = refl; built = refl; defined = refl }) refl refl (rw h (number-one v m eip i sh 1 (omega arith))))
+      (without-modrm v m eip i sh 39 (signed md) 2 (own v m eip i sh 39 (ap classOf h) (omega arith)) refl refl (rw h (number-one v m eip i sh 1 (omega arith))))
 
   jump-233 : b ≡ 233 → FastOk m e s eip i (jumpFast (wrap (wrap (eip + 5) + dwordAt m (i + 1))))
   unfolding familyOf operationIn arithmeticFamily moveFamily flowFamily classOf jumpFast
   jump-233 h = jumping m e s eip i _ (refl, (refl, refl)) refl λ int dir v sh.
       jump-fits v m e s eip i int dir (b % 16) 0 (dwordAt m (i + 1)) 5
-      (without-modrm v m eip i sh 39 (dwordAt m (i + 1)) 5 (record { isClass = ap classOf h; noOverride = refl; noEscape = refl; built = refl; defined = refl }) refl refl (rw h (number-four v m eip i sh 1 (omega arith))))
+      (without-modrm v m eip i sh 39 (dwordAt m (i + 1)) 5 (own v m eip i sh 39 (ap classOf h) (omega arith)) refl refl (rw h (number-four v m eip i sh 1 (omega arith))))
 
   call-232 : b ≡ 232 → FastOk m e s eip i (pushFast e (wrap (eip + 5)) (wrap (wrap (eip + 5) + dwordAt m (i + 1))))
   unfolding familyOf operationIn arithmeticFamily moveFamily flowFamily classOf pushFast
   call-232 h = working m e s eip i _ (refl, refl) λ int dir v sh.
       call-fits v m e s eip i int dir (b % 16) 0 (dwordAt m (i + 1)) 5
-      (without-modrm v m eip i sh 40 (dwordAt m (i + 1)) 5 (record { isClass = ap classOf h; noOverride = refl; noEscape = refl; built = refl; defined = refl }) refl refl (rw h (number-four v m eip i sh 1 (omega arith))))
+      (without-modrm v m eip i sh 40 (dwordAt m (i + 1)) 5 (own v m eip i sh 40 (ap classOf h) (omega arith)) refl refl (rw h (number-four v m eip i sh 1 (omega arith))))
 
   -- ---- from what the code read
 
@@ -294,6 +339,15 @@ module _ (m : Mem) (e : List ℕ) (s : Status) (eip i : ℕ) where
     pub taken-load : c′ ≡ 15 → p ≡ loadFast m eip i b′ → FastOk m e s eip i p
     taken-load h ep = rw (ep, eb) (load-15 (class 15 h))
 
+    pub taken-accumulator : c′ ≡ 6 → p ≡ accumulatorFast m e eip i (b′ / 8 % 8) b′ → FastOk m e s eip i p
+    taken-accumulator h ep = rw (ep, eb) (accumulator-6 (class 6 h))
+
+    pub taken-test : c′ ≡ 9 → p ≡ accumulatorFast m e eip i 8 b′ → FastOk m e s eip i p
+    taken-test h ep = rw (ep, eb) (accumulator-9 (class 9 h))
+
+    pub taken-move : c′ ≡ 16 → md′ / 8 % 8 ≡ 0 → p ≡ numberFast m e eip i 9 (isOdd b′) b′ md′ → FastOk m e s eip i p
+    taken-move h z ep = rw (ep, eb, em) (number-16 (class 16 h) (rw (← em) z))
+
     pub taken-inc : c′ ≡ 22 → p ≡ countFast e eip 10 b′ → FastOk m e s eip i p
     taken-inc h ep = rw (ep, eb) (inc-22 (class 22 h))
 
@@ -327,7 +381,7 @@ module _ (m : Mem) (e : List ℕ) (s : Status) (eip i : ℕ) where
     opcode : (n : ℕ) → b′ ≡ n → at m i ≡ n
     opcode n h = sym eb ∙ h
 
-    pub taken-number : (n : ℕ) (long : Bool) → b′ ≡ n → classOf n ≡ 7 → longOpcode n ≡ long → p ≡ numberFast m e eip i long b′ md′ → FastOk m e s eip i p
+    pub taken-number : (n : ℕ) (long : Bool) → b′ ≡ n → classOf n ≡ 7 → longOpcode n ≡ long → p ≡ numberFast m e eip i (md′ / 8 % 8) long b′ md′ → FastOk m e s eip i p
     taken-number n long h c l ep = rw (ep, eb, em) (number-7 long (ap classOf (opcode n h) ∙ c) (ap longOpcode (opcode n h) ∙ l))
 
     pub taken-places : (eqb b′ 0xc1 || eqb b′ 0xd1 || eqb b′ 0xd3) ≡ true → (ltb (md′ / 8 % 8) 4 || eqb (md′ / 8 % 8) 6) ≡ false → p ≡ placesFast m e eip i b′ md′ → FastOk m e s eip i p
@@ -353,6 +407,10 @@ module _ (m : Mem) (e : List ℕ) (s : Status) (eip i : ℕ) where
         let d : leb 192 md′ ≡ true = and-left (leb 192 md′) (eqb (md′ / 8 % 8) 4) t in
         let r : md′ / 8 % 8 ≡ 4 = eqb-true _ _ (and-right (leb 192 md′) (eqb (md′ / 8 % 8) 4) t) in
         rw (ep, em) (double-247 (opcode 0xf7 h) (rw em at d) (rw em at r))
+
+    pub taken-push-number : (n : ℕ) (long : Bool) (y z : ℕ) → b′ ≡ n → classOf n ≡ 27 → longOpcode n ≡ long → y < 4294967296 → y ≡ numberAt long m (i + 1) → z ≡ wrap (eip + (1 + cond long 4 1))
+        → p ≡ pushFast e y z → FastOk m e s eip i p
+    taken-push-number n long y z h c l small ey ez ep = rw (ep, ez, ey) (push-27 long (ap classOf (opcode n h) ∙ c) (ap longOpcode (opcode n h) ∙ l) (rw ey at small))
 
     pub taken-near : (n x z : ℕ) → b′ ≡ 235 → n ≡ wrap (eip + 2) → x ≡ signed md′ → z ≡ wrap (n + x) → p ≡ jumpFast z → FastOk m e s eip i p
     taken-near n x z h en ex ez ep = rw (ep, ez, en, ex, em) (jump-235 (opcode 235 h))

@@ -85,9 +85,8 @@ fromFast mem e eip i op b m =
 abbrev pub numberAt : Bool → Mem → ℕ → ℕ
 numberAt long mem j = cond long (dwordAt mem j) (signed (at mem j))
 
-abbrev pub numberFast : Mem → List ℕ → ℕ → ℕ → Bool → ℕ → ℕ → Fast
-numberFast mem e eip i long b m =
-    leftFast mem e eip i (m / 8 % 8) b m (numberAt long mem (i + upTo mem i m)) (upTo mem i m + cond long 4 1)
+abbrev pub numberFast : Mem → List ℕ → ℕ → ℕ → ℕ → Bool → ℕ → ℕ → Fast
+numberFast mem e eip i op long b m = leftFast mem e eip i op b m (numberAt long mem (i + upTo mem i m)) (upTo mem i m + cond long 4 1)
 
 -- ---- shifts and IMUL
 
@@ -127,22 +126,29 @@ unfoldable pub addressFast : Mem → List ℕ → ℕ → ℕ → ℕ → Fast
 addressFast mem e eip i m =
     record { taken = true; jumps = false; doubling = false; op = 9; wide = true; access = 0; at = 0; x = 0; y = spotOf mem e i m; to = m / 8 % 8; next = wrap (eip + upTo mem i m) }
 
--- MOV of an immediate into a register
-unfoldable pub loadFast : Mem → ℕ → ℕ → ℕ → Fast
-loadFast mem eip i b =
+-- on register n, which holds x, by an immediate as wide as the operation
+unfoldable pub registerFast : Mem → ℕ → ℕ → ℕ → Bool → ℕ → ℕ → Fast
+registerFast mem eip i op wide x n =
     record {
       taken = true;
       jumps = false;
       doubling = false;
-      op = 9;
-      wide = eqb (b / 8 % 2) 1;
+      op = op;
+      wide = wide;
       access = 0;
       at = 0;
-      x = 0;
-      y = numberAt (eqb (b / 8 % 2) 1) mem (i + 1);
-      to = b % 8;
-      next = wrap (eip + (1 + cond (eqb (b / 8 % 2) 1) 4 1));
+      x = x;
+      y = numberAt wide mem (i + 1);
+      to = taking op n;
+      next = wrap (eip + (1 + cond wide 4 1));
     }
+
+-- MOV into a register, whatever it holds
+abbrev pub loadFast : Mem → ℕ → ℕ → ℕ → Fast
+loadFast mem eip i b = registerFast mem eip i 9 (eqb (b / 8 % 2) 1) 0 (b % 8)
+
+abbrev pub accumulatorFast : Mem → List ℕ → ℕ → ℕ → ℕ → ℕ → Fast
+accumulatorFast mem e eip i op b = registerFast mem eip i op (isOdd b) (readAt (isOdd b) (file e) 0) 0
 
 -- INC (10) and DEC (11) of a register
 unfoldable pub countFast : List ℕ → ℕ → ℕ → ℕ → Fast

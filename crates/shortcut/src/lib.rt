@@ -16,7 +16,7 @@ ghost use Rattle.decode.specs.Decode.{signed};
 ghost use Rattle.alu.specs.declared.Status.{Status};
 ghost use Rattle.alu.specs.Brief.{statusIn};
 ghost use Rattle.shortcut.specs.Shortcut.{FastOk};
-ghost use Rattle.shortcut.specs.Forms.{file, toFast, fromFast, numberFast, placesAt, placesFast, timesFast, doubleFast, addressFast, loadFast, countFast, jumpFast, pushFast, popFast, leftAccess, taking, leftRegister, operationOf};
+ghost use Rattle.shortcut.specs.Forms.{file, toFast, fromFast, numberFast, placesAt, placesFast, timesFast, doubleFast, addressFast, registerFast, accumulatorFast, countFast, jumpFast, pushFast, popFast, leftAccess, taking, leftRegister, operationOf};
 use alu::brief::Brief;
 
 // An instruction: is it taken; is it a jump and nothing else; or is it a MUL, which is not taken like the others since it writes two registers; the operation (10 INC, 11 DEC, else as for two operands); a dword's or a byte's;
@@ -127,13 +127,12 @@ fn from_operand(mem: &[u8], e: &[u32], eip: u32, i: usize, op: u32, b: u32, m: u
 }
 
 // The operand by an immediate, of four bytes or of one.
-fn by_number(mem: &[u8], e: &[u32], eip: u32, i: usize, long: bool, b: u32, m: u32) -> Fast
+fn by_number(mem: &[u8], e: &[u32], eip: u32, i: usize, op: u32, long: bool, b: u32, m: u32) -> Fast
     requires { ⌜ i + 16 ≤ length (now mem) ⌝ }
-    ensures { λ r. ⌜ r ≡ numberFast (now (mem .entry)) (now (e .entry)) eip i long b m ⌝ }
+    ensures { λ r. ⌜ r ≡ numberFast (now (mem .entry)) (now (e .entry)) eip i op long b m ⌝ }
 {
     let q = bytes::operand(mem, e, i, m);
     let w = b % 2 == 1;
-    let op = m / 8 % 8;
     Fast {
         taken: true,
         jumps: false,
@@ -169,24 +168,32 @@ fn address_of(mem: &[u8], e: &[u32], eip: u32, i: usize, m: u32) -> Fast
     }
 }
 
-fn load(mem: &[u8], eip: u32, i: usize, b: u32) -> Fast
+// Register n, which holds x, by an immediate as wide as the operation.
+fn on_register(mem: &[u8], eip: u32, i: usize, op: u32, w: bool, x: u32, n: u32) -> Fast
     requires { ⌜ i + 16 ≤ length (now mem) ⌝ }
-    ensures { λ r. ⌜ r ≡ loadFast (now (mem .entry)) eip i b ⌝ }
+    ensures { λ r. ⌜ r ≡ registerFast (now (mem .entry)) eip i op w x n ⌝ }
 {
-    let w = b / 8 % 2 == 1;
     Fast {
         taken: true,
         jumps: false,
         doubling: false,
-        op: 9,
+        op,
         wide: w,
         access: 0,
         at: 0,
-        x: 0,
+        x,
         y: bytes::number(mem, i + 1, w),
-        to: b % 8,
+        to: taking(op, n),
         next: std::num::wrapping_add_u32(eip, 1 + either(w, 4, 1)),
     }
+}
+
+fn on_accumulator(mem: &[u8], e: &[u32], eip: u32, i: usize, op: u32, b: u32) -> Fast
+    requires { ⌜ i + 16 ≤ length (now mem) ⌝ }
+    ensures { λ r. ⌜ r ≡ accumulatorFast (now (mem .entry)) (now (e .entry)) eip i op b ⌝ }
+{
+    let w = b % 2 == 1;
+    on_register(mem, eip, i, op, w, bytes::read(e, w, 0), 0)
 }
 
 fn count(e: &[u32], eip: u32, op: u32, b: u32) -> Fast
@@ -383,9 +390,9 @@ fn by_opcode(mem: &[u8], e: &[u32], eip: u32, i: usize, b: u32, m: u32) -> Fast
     match b {
         105 => times_number(mem, e, eip, i, true, m),
         107 => times_number(mem, e, eip, i, false, m),
-        128 => by_number(mem, e, eip, i, false, b, m),
-        129 => by_number(mem, e, eip, i, true, b, m),
-        131 => by_number(mem, e, eip, i, false, b, m),
+        128 => by_number(mem, e, eip, i, m / 8 % 8, false, b, m),
+        129 => by_number(mem, e, eip, i, m / 8 % 8, true, b, m),
+        131 => by_number(mem, e, eip, i, m / 8 % 8, false, b, m),
         0xc1 => shift(mem, e, eip, i, b, m),
         0xd1 => shift(mem, e, eip, i, b, m),
         0xd3 => shift(mem, e, eip, i, b, m),
@@ -415,13 +422,41 @@ fn by_opcode(mem: &[u8], e: &[u32], eip: u32, i: usize, b: u32, m: u32) -> Fast
     }
 }
 
-// Opcodes without ModRM, by their class.
+// PUSH of an immediate.
+fn push_number(mem: &[u8], e: &[u32], eip: u32, i: usize, b: u32) -> Fast
+    requires { ⌜ (i + 16 ≤ length (now mem)) × (b ≡ at (now mem) i) ⌝ }
+    ensures { λ r. ⌜ ((s : Status) → FastOk (now (mem .entry)) (now (e .entry)) s eip i r) ⌝ }
+{
+    match b {
+        104 => push(
+            e,
+            bytes::number(mem, i + 1, true),
+            std::num::wrapping_add_u32(eip, 5),
+        ),
+        106 => push(
+            e,
+            bytes::number(mem, i + 1, false),
+            std::num::wrapping_add_u32(eip, 2),
+        ),
+        _ => none(),
+    }
+}
+
+// Opcodes without ModRM, and MOV of an immediate with it, by their class.
 fn plain(mem: &[u8], e: &[u32], s: Brief, eip: u32, i: usize, c: u32, b: u32, m: u32) -> Fast
     requires { ⌜ (i + 16 ≤ length (now mem)) × ((b ≡ at (now mem) i) × ((m ≡ at (now mem) (i + 1)) × ((m < 256) × (c ≡ classOf b)))) ⌝ }
     ensures { λ r. ⌜ FastOk (now (mem .entry)) (now (e .entry)) (statusIn s) eip i r ⌝ }
 {
     match c {
-        15 => load(mem, eip, i, b),
+        6 => on_accumulator(mem, e, eip, i, b / 8 % 8, b),
+        9 => on_accumulator(mem, e, eip, i, 8, b),
+        15 => on_register(mem, eip, i, 9, b / 8 % 2 == 1, 0, b % 8),
+        16 => {
+            if m / 8 % 8 != 0 {
+                return none();
+            }
+            by_number(mem, e, eip, i, 9, b % 2 == 1, b, m)
+        }
         22 => count(e, eip, 10, b),
         23 => count(e, eip, 11, b),
         26 => push(
@@ -429,6 +464,7 @@ fn plain(mem: &[u8], e: &[u32], s: Brief, eip: u32, i: usize, c: u32, b: u32, m:
             bytes::register(e, b % 8),
             std::num::wrapping_add_u32(eip, 1),
         ),
+        27 => push_number(mem, e, eip, i, b),
         28 => pop(e, 5, b % 8, std::num::wrapping_add_u32(eip, 1)),
         36 => {
             if b / 16 != 7 {
