@@ -10,32 +10,32 @@ import subprocess
 import sys
 
 TOP = os.path.join(os.path.dirname(os.path.abspath(__file__)), "../..")
-A, S, P, G, X, E, D, M, R, U = "alu", "shifts", "products", "paging", "access", "encoding", "decode", "machine", "micro32", "audit"
-# crate, the wrong rule in words, the text of the rule, the wrong text
+A, B, S, P, G, X, E, D, M, R, U = "alu", "alu/brief", "shifts", "products", "paging", "access", "encoding", "decode", "machine", "micro32", "audit"
+# where it stands, the wrong rule in words, the text of the rule, the wrong text
 RULES = [
-    (A, "SBB's borrow is folded into the subtrahend", "let s = b as u64 + k as u64;", "let s = (b as u64 + k as u64) % 0x1_0000_0000;"),
-    (A, "AF of a difference without the borrow", "af: a % 16 < b % 16 + k,", "af: a % 16 < b % 16,"),
-    (A, "AF of a sum without the carry", "af: 16 <= a % 16 + b % 16 + k,", "af: 16 <= a % 16 + b % 16,"),
-    (A, "OF of a sum of dwords: any change of sign", "of: (n == (0x8000_0000 <= b)) & (n != (0x8000_0000 <= r)),", "of: n != (0x8000_0000 <= r),"),
-    (A, "OF of a difference of dwords: any change of sign", "of: (n != (0x8000_0000 <= b)) & (n != (0x8000_0000 <= r)),", "of: n != (0x8000_0000 <= r),"),
-    (A, "OF of a sum of bytes: any change of sign", "of: (n == (128 <= b)) & (n != (128 <= r)),", "of: n != (128 <= r),"),
-    (A, "OF of a difference of bytes is 0", "of: (n != (128 <= b)) & (n != (128 <= r)),", "of: false,"),
-    (A, "carry out of a byte at 255", "cf: 256 <= t,", "cf: 255 <= t,"),
+    (B, "SBB's borrow is folded into the subtrahend", "let s = b as u64 + k as u64;", "let s = (b as u64 + k as u64) % 0x1_0000_0000;"),
+    (B, "AF of a difference without the borrow", "af: a % 16 < b % 16 + k,", "af: a % 16 < b % 16,"),
+    (B, "AF of a sum without the carry", "af: 16 <= a % 16 + b % 16 + k,", "af: 16 <= a % 16 + b % 16,"),
+    (B, "OF of a sum of dwords: any change of sign", "of: (n == (0x8000_0000 <= b)) & (n != (0x8000_0000 <= r)),", "of: n != (0x8000_0000 <= r),"),
+    (B, "OF of a difference of dwords: any change of sign", "of: (n != (0x8000_0000 <= b)) & (n != (0x8000_0000 <= r)),", "of: n != (0x8000_0000 <= r),"),
+    (B, "OF of a sum of bytes: any change of sign", "of: (n == (128 <= b)) & (n != (128 <= r)),", "of: n != (128 <= r),"),
+    (B, "OF of a difference of bytes is 0", "of: (n != (128 <= b)) & (n != (128 <= r)),", "of: false,"),
+    (B, "carry out of a byte at 255", "cf: 256 <= t,", "cf: 255 <= t,"),
     (A, "parity of the whole dword", "u32::count_ones(x % 256) % 2 == 0", "u32::count_ones(x) % 2 == 0"),
-    (A, "AF cleared by logic on dwords", "af: s.af,\n        zf: r == 0,\n        sf: 0x8000_0000", "af: false,\n        zf: r == 0,\n        sf: 0x8000_0000"),
-    (A, "AF cleared by logic on bytes", "af: s.af,\n        zf: r == 0,\n        sf: 128", "af: false,\n        zf: r == 0,\n        sf: 128"),
+    (B, "AF cleared by logic on dwords", "af: f.af,\n        of: false,\n        seen: r,", "af: false,\n        of: false,\n        seen: r,"),
+    (B, "AF cleared by logic on bytes", "af: f.af,\n        of: false,\n        seen: crate", "af: false,\n        of: false,\n        seen: crate"),
     (A, "INC and DEC change CF", "r.cf = s.cf;", "r.cf = t.cf;"),
     (A, "ADC of dwords without the carry", "2 => add32(a, b, s.cf),", "2 => add32(a, b, false),"),
     (A, "SBB of bytes without the borrow", "3 => sub8(a, b, s.cf),", "3 => sub8(a, b, false),"),
     (A, "TEST writes its result", "!((op == 7) | (op == 8))", "!(op == 7)"),
     (A, "NOT of a byte does nothing", "value: 255 - a as u32,", "value: a as u32,"),
     (S, "a shift count of 32 and more is 31", "let n = count % 32;", "let n = if count < 32 { count } else { 31 };"),
-    (S, "OF changed by every shift", "let of = either(n == 1, one, s.of);", "let of = one;"),
-    (S, "OF kept by a shift of 1", "let of = either(n == 1, one, s.of);", "let of = s.of;"),
-    (S, "CF kept by a shift", "cf: last,", "cf: s.cf,"),
+    (S, "OF changed by every shift", "let of = either(n == 1, one, f.of);", "let of = one;"),
+    (S, "OF kept by a shift of 1", "let of = either(n == 1, one, f.of);", "let of = f.of;"),
+    (S, "CF kept by a shift", "cf: last,", "cf: f.cf,"),
     (S, "CF of SHL from the first place", "let last = 128 <= p;", "let last = 128 <= v;"),
-    (S, "OF of SHR of a byte is 0", "after(n, s, r, 128 <= r, p % 2 == 1, 128 <= v)", "after(n, s, r, 128 <= r, p % 2 == 1, false)"),
-    (S, "SAR of a byte brings in zeros", "let r = p / 2 + 128;", "let r = p / 2;"),
+    (S, "OF of SHR of a byte is 0", "after(n, f, r, signed_byte(r), p % 2 == 1, 128 <= v)", "after(n, f, r, signed_byte(r), p % 2 == 1, false)"),
+    (S, "SAR of a byte brings in zeros", "let t = flip(128 <= v, 255);", "let t = flip(false, 255);"),
     (P, "IDIV refuses the most negative quotient", "if negative { m <= top } else { m < top }", "m < top"),
     (P, "OF kept by a multiply", "r.of = b;", "r.of = s.of;"),
     (P, "the remainder has the quotient's sign, dwords", "let rest = number(0x8000_0000, below, m % e);", "let rest = number(0x8000_0000, negative, m % e);"),
@@ -89,8 +89,10 @@ RULES = [
 ]
 
 
-def source(top, crate):
-    return os.path.join(top, "crates", crate, "src/lib.rt")
+def source(top, place):
+    """A crate's own file, or another of its files after a slash."""
+    crate, _, file = place.partition("/")
+    return os.path.join(top, "crates", crate, "src", (file or "lib") + ".rt")
 
 
 def unplaced():
@@ -147,4 +149,5 @@ def main():
     print(len(RULES) - first, "wrong rules tried,", told, "told apart")
 
 
-main()
+if __name__ == "__main__":
+    main()
