@@ -19,9 +19,10 @@ ghost use Rattle.shortcut.specs.Shortcut.{FastOk};
 ghost use Rattle.shortcut.specs.Forms.{file, toFast, fromFast, numberFast, placesAt, placesFast, timesFast, doubleFast, addressFast, registerFast, accumulatorFast, countFast, jumpFast, pushFast, popFast, leftAccess, taking, leftRegister, operationOf};
 use alu::brief::Brief;
 
-// An instruction: is it taken; is it a jump and nothing else; or is it a MUL, which is not taken like the others since it writes two registers; the operation (10 INC, 11 DEC, else as for two operands); a dword's or a byte's;
-// the access (0 none, 1 a read of x, 2 of y, 3 a read-and-write of x, 4 a push, 5 a pop, 6 a return) and its address; the operands; the
-// register that takes the result, 8 for none; the next EIP.
+// An instruction: is it taken; is it a jump and nothing else; is it a MUL, which is not taken as the others are since it writes two registers;
+// the operation (up to 9 as for two operands, 10 INC, 11 DEC, 12, 13 and 15 shifts, 14 IMUL); a dword's or a byte's; the access (0 none, 1 a read
+// of x, 2 of y, 3 a read-and-write of x, 4 a push, 5 a pop, 6 a return) and its address; the operands; the register that takes the result, 8 for
+// none; the next EIP.
 pub struct Fast {
     pub taken: bool,
     pub jumps: bool,
@@ -388,15 +389,15 @@ fn by_opcode(mem: &[u8], e: &[u32], eip: u32, i: usize, b: u32, m: u32) -> Fast
     ensures { λ r. ⌜ ((s : Status) → FastOk (now (mem .entry)) (now (e .entry)) s eip i r) ⌝ }
 {
     match b {
-        105 => times_number(mem, e, eip, i, true, m),
-        107 => times_number(mem, e, eip, i, false, m),
-        128 => by_number(mem, e, eip, i, m / 8 % 8, false, b, m),
-        129 => by_number(mem, e, eip, i, m / 8 % 8, true, b, m),
-        131 => by_number(mem, e, eip, i, m / 8 % 8, false, b, m),
+        0x69 => times_number(mem, e, eip, i, true, m),
+        0x6b => times_number(mem, e, eip, i, false, m),
+        0x80 => by_number(mem, e, eip, i, m / 8 % 8, false, b, m),
+        0x81 => by_number(mem, e, eip, i, m / 8 % 8, true, b, m),
+        0x83 => by_number(mem, e, eip, i, m / 8 % 8, false, b, m),
         0xc1 => shift(mem, e, eip, i, b, m),
         0xd1 => shift(mem, e, eip, i, b, m),
         0xd3 => shift(mem, e, eip, i, b, m),
-        232 => {
+        0xe8 => {
             let next = std::num::wrapping_add_u32(eip, 5);
             push(
                 e,
@@ -404,11 +405,11 @@ fn by_opcode(mem: &[u8], e: &[u32], eip: u32, i: usize, b: u32, m: u32) -> Fast
                 std::num::wrapping_add_u32(next, bytes::dword(mem, i + 1)),
             )
         }
-        233 => {
+        0xe9 => {
             let next = std::num::wrapping_add_u32(eip, 5);
             jump(std::num::wrapping_add_u32(next, bytes::dword(mem, i + 1)))
         }
-        235 => {
+        0xeb => {
             let next = std::num::wrapping_add_u32(eip, 2);
             jump(std::num::wrapping_add_u32(next, decode::extend(m)))
         }
@@ -428,12 +429,12 @@ fn push_number(mem: &[u8], e: &[u32], eip: u32, i: usize, b: u32) -> Fast
     ensures { λ r. ⌜ ((s : Status) → FastOk (now (mem .entry)) (now (e .entry)) s eip i r) ⌝ }
 {
     match b {
-        104 => push(
+        0x68 => push(
             e,
             bytes::number(mem, i + 1, true),
             std::num::wrapping_add_u32(eip, 5),
         ),
-        106 => push(
+        0x6a => push(
             e,
             bytes::number(mem, i + 1, false),
             std::num::wrapping_add_u32(eip, 2),
