@@ -10,7 +10,7 @@ pub fn plus(a: u32, b: u32) -> u32
 }
 
 pub fn wide(x: u8) -> u32
-    ensures { λ r. ⌜ r < 256 ⌝ }
+    ensures { λ r. ⌜ (r ≡ x) × (r < 256) ⌝ }
 {
     x as u32
 }
@@ -23,7 +23,7 @@ pub fn byte(b: &[u8], at: u32) -> u8
 }
 
 pub fn number(b: &[u8], at: u32) -> u32
-    ensures { λ r. ⌜ r < 256 ⌝ }
+    ensures { λ r. ⌜ (r ≡ getD (now (b .entry)) at 0) × (r < 256) ⌝ }
 {
     wide(byte(b, at))
 }
