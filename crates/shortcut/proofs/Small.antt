@@ -20,7 +20,7 @@ one-or-none b = cond-le b 1 (omega arith) (omega arith)
 pub four-or-one : (b : Bool) → cond b 4 1 ≤ 4
 four-or-one b = cond-le b 4 (omega arith) (omega arith)
 
-pub few : (md : ℕ) → displacementBytes md ≤ 4
+few : (md : ℕ) → displacementBytes md ≤ 4
 few md = cond-le (eqb md 1) 4 (omega arith) (cond-le (eqb md 2) 4 (omega arith) (omega arith))
 
 sib-few : (m : Mem) (j md : ℕ) → sibBytes m j md ≤ 5

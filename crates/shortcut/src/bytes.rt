@@ -6,9 +6,9 @@ ghost use lib.ListN.{length, getD};
 ghost use lib.Dec.{leb, eqb};
 ghost use Rattle.machine.specs.Record.{at, readAt, byteRegister};
 ghost use Rattle.machine.specs.Paging.{dwordAt};
-ghost use Rattle.decode.specs.Decode.{inMemory};
+ghost use Rattle.decode.specs.Decode.{inMemory, indexOf, scaleOf};
 ghost use Rattle.operands.specs.Operands.{scaled, address};
-ghost use Rattle.shortcut.specs.Bytes.{displacementAt, sibAt, sibBytes, operandAt, operandBytes};
+ghost use Rattle.shortcut.specs.Bytes.{sibAt, sibBytes, operandAt, operandBytes};
 ghost use Rattle.shortcut.specs.Forms.{file, numberAt, spotOf, upTo};
 
 // Where a memory operand lies, 0 for a register; and how many bytes the instruction has up to its immediate.
@@ -97,49 +97,44 @@ fn place(e: &[u32], base: u32, index: u32, scale: u32, x: u32) -> u32
     ((b as u64 + times(i, scale) + x as u64) % 4294967296) as u32
 }
 
-fn displacement(mem: &[u8], j: usize, md: u32) -> u32
-    requires { ⌜ j + 3 < length (now mem) ⌝ }
-    ensures { λ r. ⌜ r ≡ displacementAt (now (mem .entry)) j md ⌝ }
+// With the index and the scale of the SIB byte s.
+fn indexed(e: &[u32], base: u32, s: u32, x: u32) -> u32
+    ensures { λ r. ⌜ r ≡ address (file (now (e .entry))) (inMemory base (indexOf s) (scaleOf s) x) ⌝ }
 {
-    if md == 1 {
-        return decode::extend(byte(mem, j));
-    }
-    if md == 2 {
-        return dword(mem, j);
-    }
-    0
+    place(e, base, decode::index_of(s), decode::scale_of(s), x)
 }
 
+// The SIB byte is at j; md is the mod field.
 fn sib(mem: &[u8], e: &[u32], j: usize, md: u32) -> Spot
-    requires { ⌜ j + 5 < length (now mem) ⌝ }
+    requires { ⌜ (j + 5 < length (now mem)) × (md < 3) ⌝ }
     ensures { λ r. ⌜ (r .at ≡ address (file (now (e .entry))) (sibAt (now (mem .entry)) j md)) × (r .upto ≡ 2 + sibBytes (now (mem .entry)) j md) ⌝ }
 {
     let s = byte(mem, j);
-    if (s % 8 == 5) & (md == 0) {
+    if md == 1 {
         return Spot {
-            at: place(
-                e,
-                8,
-                decode::index_of(s),
-                decode::scale_of(s),
-                dword(mem, j + 1),
-            ),
+            at: indexed(e, s % 8, s, decode::extend(byte(mem, j + 1))),
+            upto: 4,
+        };
+    }
+    if md == 2 {
+        return Spot {
+            at: indexed(e, s % 8, s, dword(mem, j + 1)),
+            upto: 7,
+        };
+    }
+    if s % 8 == 5 {
+        return Spot {
+            at: indexed(e, 8, s, dword(mem, j + 1)),
             upto: 7,
         };
     }
     Spot {
-        at: place(
-            e,
-            s % 8,
-            decode::index_of(s),
-            decode::scale_of(s),
-            displacement(mem, j + 1, md),
-        ),
-        upto: 3 + decode::displacement_bytes(md),
+        at: indexed(e, s % 8, s, 0),
+        upto: 3,
     }
 }
 
-// A memory operand; b is the ModRM byte, and j the index of the byte after it.
+// A memory operand; b is the ModRM byte, and j the index of the byte after it. Its length is a constant on each path.
 pub fn form(mem: &[u8], e: &[u32], j: usize, b: u32) -> Spot
     requires { ⌜ (j + 5 < length (now mem)) × (b < 192) ⌝ }
     ensures { λ r. ⌜ (r .at ≡ address (file (now (e .entry))) (operandAt (now (mem .entry)) j b)) × (r .upto ≡ 2 + operandBytes (now (mem .entry)) j b) ⌝ }
@@ -147,15 +142,27 @@ pub fn form(mem: &[u8], e: &[u32], j: usize, b: u32) -> Spot
     if b % 8 == 4 {
         return sib(mem, e, j, b / 64);
     }
-    if (b / 64 == 0) & (b % 8 == 5) {
+    if b / 64 == 1 {
+        return Spot {
+            at: place(e, b % 8, 8, 1, decode::extend(byte(mem, j))),
+            upto: 3,
+        };
+    }
+    if b / 64 == 2 {
+        return Spot {
+            at: place(e, b % 8, 8, 1, dword(mem, j)),
+            upto: 6,
+        };
+    }
+    if b % 8 == 5 {
         return Spot {
             at: place(e, 8, 8, 1, dword(mem, j)),
             upto: 6,
         };
     }
     Spot {
-        at: place(e, b % 8, 8, 1, displacement(mem, j, b / 64)),
-        upto: 2 + decode::displacement_bytes(b / 64),
+        at: place(e, b % 8, 8, 1, 0),
+        upto: 2,
     }
 }
 
