@@ -1,4 +1,4 @@
-// What comes of an instruction in its short form, where a is the value that its access found.
+// What comes of an instruction in its short form.
 ghost use mathlib.Core.Path.{_≡_};
 ghost use mathlib.Core.Bool.{Bool, true, false, cond};
 ghost use Prim.Native.Nat.{ℕ, _+_, _*_, _/_, _%_, _<_, _≤_, _^_};
@@ -7,7 +7,7 @@ ghost use Rattle.machine.specs.Record.{withRegister, writeAt, replaced};
 ghost use Rattle.products.specs.Products.{product};
 ghost use Rattle.shifts.specs.Shifts.{shifted};
 ghost use Rattle.alu.specs.Brief.{statusIn, outIn};
-ghost use Rattle.shortcut.specs.Shortcut.{lowOut, outOf, resultOf, stacked, depositOf, doubledIn};
+ghost use Rattle.shortcut.specs.Shortcut.{lowOut, outOf, stacked, depositOf, doubledIn};
 ghost use Rattle.shortcut.specs.Forms.{file};
 use crate::Fast;
 use alu::brief::Brief;
@@ -84,12 +84,10 @@ fn bytes(op: u32, x: u32, y: u32, f: Brief) -> Short
     on_bytes(op, (x % 256) as u8, (y % 256) as u8, f)
 }
 
-// The value and the flags.
-pub fn result(p: Fast, a: u32, f: Brief) -> Short
-    ensures { λ r. ⌜ outIn r ≡ resultOf p a (statusIn f) ⌝ }
+// The value and the flags, of these operands.
+pub fn result(p: Fast, x: u32, y: u32, f: Brief) -> Short
+    ensures { λ r. ⌜ outIn r ≡ outOf (p .op) (p .wide) x y (statusIn f) ⌝ }
 {
-    let x = crate::either((p.access == 1) | (p.access == 3), a, p.x);
-    let y = crate::either((p.access == 2) | (p.access == 5), a, p.y);
     if p.wide {
         return dwords(p.op, x, y, f);
     }
