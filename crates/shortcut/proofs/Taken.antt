@@ -167,36 +167,29 @@ module _ (m : Mem) (e : List ℕ) (s : Status) (eip i : ℕ) where
   g = md / 8 % 8
 
   module _ (by : Shifting g) (built : (ltb g 4 || eqb g 6) ≡ false) where
+    -- whatever the opcode, in n bytes: by CL (true), or by the immediate x
+    places-read : (cl : Bool) (x n : ℕ) → isOdd b ≡ true → placesAt b m e (i + upTo m i md) ≡ cond cl (readAt false (file e) 1) x → upTo m i md + cond (eqb b 0xc1) 1 0 ≡ n
+        → Reads (combiningAt m i (cond cl 6 5) g x n) n → FastOk m e s eip i (placesFast m e eip i b md)
+    unfolding leftFast first second writesOperand compute computeArithmetic doShift readAt
+    places-read true x n odd ey en de = working m e s eip i _ (refl, refl) λ int dir v sh.
+        rw (ey, en) (shift-fits v m e s eip i int dir 6 x (readAt false (file e) 1) n odd by (de v sh) (λ _ _. refl) refl refl (λ a. rw odd))
+    places-read false x n odd ey en de = working m e s eip i _ (refl, refl) λ int dir v sh.
+        rw (ey, en) (shift-fits v m e s eip i int dir 5 x x n odd by (de v sh) (λ _ _. refl) refl refl (λ a. rw odd))
+
     places-193 : b ≡ 0xc1 → FastOk m e s eip i (placesFast m e eip i b md)
-    unfolding familyOf operationIn arithmeticFamily leftFast first second writesOperand compute computeArithmetic doShift classOf readAt
-    places-193 h = working m e s eip i _ (refl, refl) λ int dir v sh.
+    unfolding familyOf operationIn arithmeticFamily classOf
+    places-193 h =
         let few = operand-few m (i + 2) md in
-        let ey : placesAt b m e (i + upTo m i md) ≡ (signed (at m (i + upTo m i md))) = rw h in
-        let en : upTo m i md + cond (eqb b 0xc1) 1 0 ≡ upTo m i md + 1 = rw h (omega arith) in
-        let odd : isOdd b ≡ true = rw h in
-        rw (ey, en) (shift-fits v m e s eip i int dir 5 (signed (at m (i + upTo m i md))) (signed (at m (i + upTo m i md))) (upTo m i md + 1) odd by
-        (with-modrm v m eip i sh 30 (signed (at m (i + upTo m i md))) (upTo m i md + 1) (record { isClass = ap classOf h; noOverride = refl; noEscape = refl; built = refl; defined = refl }) refl refl built (rw h (number-one v m eip i sh (upTo m i md) (omega (arith, few)))))
-        (λ _ _. refl) refl refl (λ a. rw odd))
+        places-read false (signed (at m (i + upTo m i md))) (upTo m i md + 1) (rw h) (rw h) (rw h) λ v sh.
+        with-modrm v m eip i sh 30 _ _ (own v m eip i sh 30 (ap classOf h) (omega arith)) refl refl built (rw h (number-one v m eip i sh (upTo m i md) (omega (arith, few))))
 
     places-209 : b ≡ 0xd1 → FastOk m e s eip i (placesFast m e eip i b md)
-    unfolding familyOf operationIn arithmeticFamily leftFast first second writesOperand compute computeArithmetic doShift classOf readAt
-    places-209 h = working m e s eip i _ (refl, refl) λ int dir v sh.
-        let ey : placesAt b m e (i + upTo m i md) ≡ 1 = rw h in
-        let en : upTo m i md + cond (eqb b 0xc1) 1 0 ≡ upTo m i md = rw h (omega arith) in
-        let odd : isOdd b ≡ true = rw h in
-        rw (ey, en) (shift-fits v m e s eip i int dir 5 1 1 (upTo m i md) odd by
-        (with-modrm v m eip i sh 31 0 (upTo m i md) (record { isClass = ap classOf h; noOverride = refl; noEscape = refl; built = refl; defined = refl }) refl refl built (number-none v m eip i sh (upTo m i md)))
-        (λ _ _. refl) refl refl (λ a. rw odd))
+    unfolding familyOf operationIn arithmeticFamily classOf
+    places-209 h = places-read false 1 (upTo m i md) (rw h) (rw h) (rw h (omega arith)) (bare 31 (ap classOf h) (omega arith) refl refl built refl)
 
     places-211 : b ≡ 0xd3 → FastOk m e s eip i (placesFast m e eip i b md)
-    unfolding familyOf operationIn arithmeticFamily leftFast first second writesOperand compute computeArithmetic doShift classOf readAt
-    places-211 h = working m e s eip i _ (refl, refl) λ int dir v sh.
-        let ey : placesAt b m e (i + upTo m i md) ≡ (readAt false (file e) 1) = rw h in
-        let en : upTo m i md + cond (eqb b 0xc1) 1 0 ≡ upTo m i md = rw h (omega arith) in
-        let odd : isOdd b ≡ true = rw h in
-        rw (ey, en) (shift-fits v m e s eip i int dir 6 0 (readAt false (file e) 1) (upTo m i md) odd by
-        (with-modrm v m eip i sh 32 0 (upTo m i md) (record { isClass = ap classOf h; noOverride = refl; noEscape = refl; built = refl; defined = refl }) refl refl built (number-none v m eip i sh (upTo m i md)))
-        (λ _ _. refl) refl refl (λ a. rw odd))
+    unfolding familyOf operationIn arithmeticFamily classOf
+    places-211 h = places-read true 0 (upTo m i md) (rw h) (rw h) (rw h (omega arith)) (bare 32 (ap classOf h) (omega arith) refl refl built refl)
 
   times-33 : (long : Bool) → classOf b ≡ 33 → longOpcode b ≡ long → FastOk m e s eip i (timesFast m e eip i long md)
   unfolding familyOf operationIn arithmeticFamily timesFast
