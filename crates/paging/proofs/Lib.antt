@@ -1,3 +1,4 @@
 pub mod Cases
 pub mod Pages
 pub mod Settling
+pub mod Holding

@@ -154,22 +154,27 @@ pairs-agree m m′ c l l′ e k n h g g′ =
       tabIs = k .tabIs ∙ ap (dwordAt m) (k .tabAt) ∙ sym (dword-agrees m m′ (e .pde / 4096) (tabIndex l) (omega arith) g′) ∙ ap (dwordAt m′) (sym (k .tabAt));
     }
 
-module _ (m : Mem) (c : Control) (l : ℕ) where
-  pub page-stays : (e : Pair) → Pairs m c l e → paging c ≡ true → usable c false e ≡ true → e .pte / 4096 * 4096 + 4096 ≤ length m
-      → KeptOk m c (record { page = l / 4096; base = e .pte / 4096 * 4096; table = e .pde / 4096 })
-  page-stays e k on free fits = record {
+low-base : (x : ℕ) → x < 4294967296 → x / 4096 * 4096 + 4096 ≤ 4294967296
+low-base x h = omega arith
+
+module _ (m : Mem) (c : Control) (w : Bool) (l : ℕ) where
+  pub page-stays : (e : Pair) → Pairs m c l e → e .pte < 4294967296 → paging c ≡ true → usable c w e ≡ true → e .pte / 4096 * 4096 + 4096 ≤ length m
+      → KeptOk m c w (record { page = l / 4096; base = e .pte / 4096 * 4096; table = e .pde / 4096 })
+  page-stays e k small on free fits = record {
+    low = λ _. low-base (e .pte) small;
     whole = λ _. omega (arith, fits);
     stays = λ _ m′ n g g′ l′ s h.
-        quiet-at m′ c false l′ e (pairs-agree m m′ c l l′ e k n (sym h) g g′) on free _ refl (rw n (inside (e .pte / 4096 * 4096) l′ fits));
+        quiet-at m′ c w l′ e (pairs-agree m m′ c l l′ e k n (sym h) g g′) on free _ refl (rw n (inside (e .pte / 4096 * 4096) l′ fits));
   }
     where
       inside : (b x : ℕ) → b + 4096 ≤ length m → b + x % 4096 < length m
       inside b x h = omega arith
 
-  pub flat-stays : (z : ℕ) → paging c ≡ false → l / 4096 * 4096 + 4096 ≤ length m → KeptOk m c (record { page = l / 4096; base = l / 4096 * 4096; table = z })
-  flat-stays z off fits = record {
+  pub flat-stays : (z : ℕ) → l < 4294967296 → paging c ≡ false → l / 4096 * 4096 + 4096 ≤ length m → KeptOk m c w (record { page = l / 4096; base = l / 4096 * 4096; table = z })
+  flat-stays z small off fits = record {
+    low = λ _. low-base l small;
     whole = λ _. omega (arith, fits);
-    stays = λ _ m′ n g g′ l′ s h. rw (← same l′ h) (quiet-flat m′ c false l′ off (rw n (inside l′ h)));
+    stays = λ _ m′ n g g′ l′ s h. rw (← same l′ h) (quiet-flat m′ c w l′ off (rw n (inside l′ h)));
   }
     where
       same : (l′ : ℕ) → l′ / 4096 ≡ l / 4096 → l′ ≡ l / 4096 * 4096 + l′ % 4096
@@ -178,8 +183,8 @@ module _ (m : Mem) (c : Control) (l : ℕ) where
       inside : (l′ : ℕ) → l′ / 4096 ≡ l / 4096 → l′ < length m
       inside l′ h = omega arith
 
-pub no-page-ok : (m : Mem) (c : Control) (h : Kept) → h .page ≡ 4294967295 → KeptOk m c h
-no-page-ok m c h e = record { whole = λ k. absurd (far (h .page) e k); stays = λ k. absurd (far (h .page) e k) }
+pub no-page-ok : (m : Mem) (c : Control) (w : Bool) (h : Kept) → h .page ≡ 4294967295 → KeptOk m c w h
+no-page-ok m c w h e = record { low = λ k. absurd (far (h .page) e k); whole = λ k. absurd (far (h .page) e k); stays = λ k. absurd (far (h .page) e k) }
   where
     far : (p : ℕ) → p ≡ 4294967295 → p < 1048576 → ⊥
     far p e k = omega arith

@@ -1,10 +1,11 @@
 -- Pages that can be used with nothing left to mark: what the quick way through a run asks of the maps.
 -- Assumes nothing.
-use Prim.Native.Nat.{ℕ, _+_, _*_, _/_, _%_, _<_}
+use Prim.Native.Nat.{ℕ, _+_, _*_, _/_, _%_, _<_, _≤_}
 use mathlib.Core.Path.{_≡_}
 use mathlib.Core.Bool.{Bool, true, false, not, _&&_, _||_}
-use lib.ListN.{length}
-use lib.Dec.{eqb}
+use mathlib.Core.List.{List}
+use lib.ListN.{length, getD}
+use lib.Dec.{eqb, leb}
 use Rattle.machine.specs.Record.{Mem, at, has, user, writeProtect}
 use Rattle.machine.specs.declared.Control.{Control}
 use Rattle.machine.specs.Paging.{dwordAt, slot, dirFrame, dirIndex, tabIndex}
@@ -51,19 +52,32 @@ passes us rw′ d x = eqb (x % 2) 1 && has 32 x && (not us || has 4 x) && (not r
 unfoldable pub usable : Control → Bool → Pair → Bool
 usable c w e = passes (user c) (heldToWrite c w) false (e .pde) && passes (user c) (heldToWrite c w) w (e .pte)
 
--- ---- a code page that is kept from step to step
+-- ---- a page that is kept from step to step, for reading or for writing
 
 -- the two memories have the same bytes in a frame
 abbrev pub Agree : Mem → Mem → ℕ → Type 0
 Agree m m′ f = (i : ℕ) → i / 4096 ≡ f → at m′ i ≡ at m i
 
 -- every byte of the page lies where it should, in any memory that has the directory's frame and the table's as they are in m
-abbrev pub Stays : Mem → Control → Kept → Type 0
-Stays m c h =
+abbrev pub Stays : Mem → Control → Bool → Kept → Type 0
+Stays m c w h =
     (m′ : Mem) → length m′ ≡ length m → Agree m m′ (dirFrame c) → Agree m m′ (h .table)
-    → (l : ℕ) → l < 4294967296 → l / 4096 ≡ h .page → Quiet m′ c false l (record { 0 = h .base + l % 4096 })
+    → (l : ℕ) → l < 4294967296 → l / 4096 ≡ h .page → Quiet m′ c w l (record { 0 = h .base + l % 4096 })
 
 -- a number above any page's stands for none
-pub record KeptOk (m : Mem) (c : Control) (h : Kept) : Type 0 where
+pub record KeptOk (m : Mem) (c : Control) (w : Bool) (h : Kept) : Type 0 where
+  pub low : h .page < 1048576 → h .base + 4096 ≤ 4294967296
   pub whole : h .page < 1048576 → h .base + 4096 < length m + 1
-  pub stays : h .page < 1048576 → Stays m c h
+  pub stays : h .page < 1048576 → Stays m c w h
+
+-- ---- pages of data, with their entries in table t: the first sixteen are kept for reading, the others for writing
+
+abbrev pub entryIn : List ℕ → ℕ → ℕ
+entryIn d k = getD d k 18446744073709551615
+
+-- the page's number is above the index where it begins
+abbrev pub pageIn : List ℕ → ℕ → ℕ → Kept
+pageIn d t k = record { page = entryIn d k / 4294967296; base = entryIn d k % 4294967296; table = t }
+
+abbrev pub HeldOk : Mem → Control → ℕ → List ℕ → Type 0
+HeldOk m c t d = (k : ℕ) → KeptOk m c (leb 16 k) (pageIn d t k)

@@ -1,4 +1,5 @@
 // Linear and physical addresses, and the walk of the pages that leads from one to the other.
+pub mod held;
 pub mod quiet;
 
 ghost use mathlib.Core.Path.{_≡_};

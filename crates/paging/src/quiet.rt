@@ -4,7 +4,7 @@ ghost use mathlib.Core.Bool.{true, false};
 ghost use Prim.Native.Nat.{ℕ, _+_, _*_, _/_, _%_, _<_, _≤_, _^_};
 ghost use lib.ListN.{length};
 ghost use Rattle.machine.specs.Record.{paging};
-ghost use Rattle.paging.specs.Quiet.{SettledOk, Pairs, passes, usable, KeptOk};
+ghost use Rattle.paging.specs.Quiet.{Pairs, passes, usable, KeptOk};
 use crate::Physical;
 use machine::Control;
 
@@ -23,7 +23,7 @@ pub struct Pair {
     pub pte: u32,
 }
 
-// A code page: its number (above any page's: none), where it begins in memory, and the frame of its table.
+// A page that is kept: its number (above any page's: none), where it begins in memory, and the frame of its table.
 pub struct Kept {
     pub page: u32,
     pub base: u32,
@@ -88,37 +88,6 @@ fn usable(c: Control, w: bool, e: Pair) -> bool
     passes(false, rw, false, e.pde) & passes(false, rw, w, e.pte)
 }
 
-fn on_page(mem: &[u8], c: Control, w: bool, l: u32) -> Settled
-    requires { ⌜ paging c ≡ true ⌝ }
-    ensures { λ r. ⌜ SettledOk (now (mem .entry)) c w l r ⌝ }
-{
-    let e = entries(mem, c, l);
-    if !e.found {
-        return Settled::Other;
-    }
-    if !usable(c, w, e) {
-        return Settled::Other;
-    }
-    let p = Physical(e.pte / 4096 * 4096 + l % 4096);
-    if mem.len() <= p.0 as usize {
-        return Settled::Other;
-    }
-    Settled::Ready(p)
-}
-
-// Where a byte lies, if it may be used and its page is marked already; w: is it a write.
-pub fn reach(mem: &[u8], c: Control, w: bool, l: u32) -> Settled
-    ensures { λ r. ⌜ SettledOk (now (mem .entry)) c w l r ⌝ }
-{
-    if c.cr0 / 2147483648 % 2 == 1 {
-        return on_page(mem, c, w, l);
-    }
-    if (l as usize) < mem.len() {
-        return Settled::Ready(Physical(l));
-    }
-    Settled::Other
-}
-
 // No page at all.
 pub fn no_page() -> Kept
     ensures { λ r. ⌜ r .page ≡ 4294967295 ⌝ }
@@ -130,15 +99,15 @@ pub fn no_page() -> Kept
     }
 }
 
-fn mapped_page(mem: &[u8], c: Control, l: u32) -> Kept
+fn mapped_page(mem: &[u8], c: Control, w: bool, l: u32) -> Kept
     requires { ⌜ paging c ≡ true ⌝ }
-    ensures { λ r. ⌜ KeptOk (now (mem .entry)) c r ⌝ }
+    ensures { λ r. ⌜ KeptOk (now (mem .entry)) c w r ⌝ }
 {
     let e = entries(mem, c, l);
     if !e.found {
         return no_page();
     }
-    if !usable(c, false, e) {
+    if !usable(c, w, e) {
         return no_page();
     }
     let base = e.pte / 4096 * 4096;
@@ -152,12 +121,12 @@ fn mapped_page(mem: &[u8], c: Control, l: u32) -> Kept
     }
 }
 
-// The page of l, for reading code from it, if it may be kept.
-pub fn code_page(mem: &[u8], c: Control, l: u32) -> Kept
-    ensures { λ r. ⌜ KeptOk (now (mem .entry)) c r ⌝ }
+// The page of l, for reading or for writing, if it may be kept.
+pub fn page_of(mem: &[u8], c: Control, w: bool, l: u32) -> Kept
+    ensures { λ r. ⌜ KeptOk (now (mem .entry)) c w r ⌝ }
 {
     if c.cr0 / 2147483648 % 2 == 1 {
-        return mapped_page(mem, c, l);
+        return mapped_page(mem, c, w, l);
     }
     let base = l / 4096 * 4096;
     if mem.len() < base as usize + 4096 {

@@ -1,12 +1,12 @@
--- The one access of a short form is the definition's two, found with nothing to mark; and a store elsewhere leaves a kept page as it is.
+-- The one access of a short form is the definition's two, found with nothing to mark; and a store elsewhere leaves kept pages as they are.
 -- Assumes nothing.
 use Prim.Native.Nat.{ℕ, _+_, _/_, _%_, _<_, _≤_}
 use mathlib.Core.Path.{_≡_, refl, sym, ap, _∙_}
-use mathlib.Core.Bool.{Bool, true, false, cond, _&&_, _||_, false≢true}
+use mathlib.Core.Bool.{Bool, true, false, not, cond, _&&_, _||_, false≢true}
 use mathlib.Core.List.{List, [], append-nil}
 use native.Mathlib.Omega.{arith}
 use native.Mathlib.Decide.{ℕ-discrete}
-use borrow.Author.Tests.{ne-eqb, eqb-true, eqb-false, ltb-false}
+use borrow.Author.Tests.{ne-eqb, eqb-true, eqb-false, ltb-false, not-true}
 use lib.Dec.{eqb, ltb}
 use lib.ListN.{length, set, length-set}
 use lib.Seq.{getD-set-other}
@@ -21,16 +21,15 @@ use Rattle.paging.specs.declared.quiet.Kept.{Kept}
 use Rattle.paging.specs.Walked.{patchesOf}
 use Rattle.paging.specs.declared.quiet.Settled.{Settled}
 use Rattle.paging.specs.declared.quiet.Settled.the-variants.{Ready}
-use Rattle.paging.specs.Quiet.{Quiet, SettledOk, Agree, KeptOk}
-use Rattle.paging.proofs.Settling.{no-page-ok}
+use Rattle.paging.specs.Quiet.{Quiet, SettledOk, Agree, KeptOk, pageIn, HeldOk}
 use Rattle.access.specs.declared.Access.{Access}
 use Rattle.access.specs.Located.{asked, trailMarks, placed, puts, nowhere, Held}
 use Rattle.access.proofs.Laws.{nothing-held, near-held, byte-held}
 use Rattle.shortcut.specs.declared.Fast.{Fast}
-use Rattle.shortcut.specs.Shortcut.{asks, wantFirst, wantSecond, stores}
+use Rattle.shortcut.specs.Shortcut.{asks, wantFirst, wantSecond, stores, leftOf, rightOf}
 use Rattle.swift.specs.declared.Sought.{Sought}
 use Rattle.phases.specs.Planned.{accessMarks}
-use Rattle.swift.specs.Swift.{spotted, saved, Reaches}
+use Rattle.swift.specs.Swift.{spotted, saved, Holds, Reaches, Spared, PagesOk}
 
 -- ---- what is asked
 
@@ -55,17 +54,26 @@ module _ (p : Fast) where
   unfolding wantSecond
   want-no-second h = rw h
 
+-- ---- the value and the operands
+
+pub pushed : (p : Fast) (v : ℕ) (q : Sought) → p .access ≡ 4 → q .value ≡ 0 → q .x ≡ p .x → q .y ≡ p .y → Holds p v q
+pushed p v q h ev ex ey = record { value = ev ∙ rw h; left = ex ∙ rw h; right = ey ∙ rw h }
+
+pub read : (p : Fast) (v : ℕ) (q : Sought) → (p .access ≡ 4 → ⊥) → q .value ≡ v → q .x ≡ leftOf p v → q .y ≡ rightOf p v → Holds p v q
+read p v q n ev ex ey = record { value = ev ∙ rw (ne-eqb (p .access) 4 n) refl; left = ex ∙ ap (leftOf p) (sym ev); right = ey ∙ ap (rightOf p) (sym ev) }
+
 -- ---- the access that was found
 
 module _ (m : Mem) (c : Control) (p : Fast) where
-  pub none-reached : (q : Sought) → p .access ≡ 0 → q .value ≡ 0 → Reaches m c p q
+  pub none-reached : (q : Sought) → p .access ≡ 0 → q .value ≡ 0 → q .x ≡ p .x → q .y ≡ p .y → Reaches m c p q
   unfolding wantFirst wantSecond trailMarks patchesOf patches puts saved
-  none-reached q h v = record {
+  none-reached q h v x y = record {
     one = nowhere;
     two = nowhere;
     firstly = rw h (nothing-held m c);
     secondly = rw h (nothing-held m c);
     value = sym v;
+    operands = (x ∙ rw h, y ∙ rw h);
     quiet = refl;
     left = λ x. rw h;
   }
@@ -94,9 +102,9 @@ module _ (m : Mem) (c : Control) (p : Fast) where
         by false = refl
 
     pub reached : (q : Sought) (v : ℕ) → (p .access ≡ 0 → ⊥) → (p .wide ≡ true → p .at % 4096 ≤ 4092) → v ≡ cond (p .wide) (dwordAt m (i .0)) (at m (i .0))
-        → q .at ≡ i .0 → q .value ≡ cond (eqb (p .access) 4) 0 v → Reaches m c p q
+        → q .at ≡ i .0 → Holds p v q → Reaches m c p q
     unfolding trailMarks patchesOf puts patches
-    reached q v n fits ev ei eq = by (asks 4 p) refl
+    reached q v n fits ev ei k′ = by (asks 4 p) refl
       where
         by : (b : Bool) → asks 4 p ≡ b → Reaches m c p q
         by true h = record {
@@ -104,7 +112,8 @@ module _ (m : Mem) (c : Control) (p : Fast) where
           two = found v;
           firstly = rw (want-no-first p h) (nothing-held m c);
           secondly = rw (want-second p h) (found-held v ev fits);
-          value = sym (eq ∙ ap (λ (b : Bool). cond b 0 v) h);
+          value = sym (k′ .value ∙ ap (λ (b : Bool). cond b 0 v) h);
+          operands = (k′ .left, k′ .right);
           quiet = found-quiet v;
           left = λ x. rw ei (found-left v x);
         }
@@ -113,7 +122,8 @@ module _ (m : Mem) (c : Control) (p : Fast) where
           two = nowhere;
           firstly = rw (want-first p n h) (found-held v ev fits);
           secondly = rw (want-no-second p h) (nothing-held m c);
-          value = sym (eq ∙ ap (λ (b : Bool). cond b 0 v) h);
+          value = sym (k′ .value ∙ ap (λ (b : Bool). cond b 0 v) h);
+          operands = (k′ .left, k′ .right);
           quiet = found-quiet v;
           left = λ x. rw ei (found-left v x);
         }
@@ -129,7 +139,19 @@ pub put-byte : (m : Mem) (p : Fast) (i v : ℕ) → p .wide ≡ false → set m 
 unfolding placed patches patch
 put-byte m p i v h = rw h
 
--- ---- a kept page, after a store in another frame
+-- ---- kept pages, after a store in another frame
+
+or-false : (a b : Bool) → a || b ≡ false → (a ≡ false) × (b ≡ false)
+or-false false b e = (refl, e)
+or-false true b e = absurd (false≢true (sym e))
+
+apart-four : (x y t d : ℕ) → (eqb x t || eqb y t || eqb x d || eqb y d) ≡ false
+    → (x ≡ t → ⊥) × ((y ≡ t → ⊥) × ((x ≡ d → ⊥) × (y ≡ d → ⊥)))
+apart-four x y t d e =
+    let e3 = or-false (eqb x t || eqb y t || eqb x d) (eqb y d) e in
+    let e2 = or-false (eqb x t || eqb y t) (eqb x d) (e3 .0) in
+    let e1 = or-false (eqb x t) (eqb y t) (e2 .0) in
+    (eqb-false _ _ (e1 .0), (eqb-false _ _ (e1 .1), (eqb-false _ _ (e2 .1), eqb-false _ _ (e3 .1))))
 
 -- nothing but four bytes from i on is changed
 module _ (m : Mem) (i v : ℕ) where
@@ -171,50 +193,43 @@ agree-on : (m m′ m″ : Mem) (f : ℕ) → Agree m m′ f → Agree m′ m″ 
 agree-on m m′ m″ f g g′ i h = g′ i h ∙ g i h
 
 -- a page that stays in one memory stays in another that has its entries' frames
-moves-on : (m m′ : Mem) (c : Control) (h : Kept) → length m′ ≡ length m → Agree m m′ (dirFrame c) → Agree m m′ (h .table) → KeptOk m c h → KeptOk m′ c h
-moves-on m m′ c h n g g′ k = record {
-  whole = λ s. rw n (k .whole s);
-  stays = λ s m″ n′ a a′. k .stays s m″ (n′ ∙ n) (agree-on m m′ m″ (dirFrame c) g a) (agree-on m m′ m″ (h .table) g′ a′);
+moves-on : (m m′ : Mem) (c : Control) (w : Bool) (h : Kept) → Spared m m′ c (h .table) → KeptOk m c w h → KeptOk m′ c w h
+moves-on m m′ c w h g k = record {
+  low = k .low;
+  whole = λ s. rw (g .0) (k .whole s);
+  stays = λ s m″ n a a′. k .stays s m″ (n ∙ g .0) (agree-on m m′ m″ (dirFrame c) (g .1 .0) a) (agree-on m m′ m″ (h .table) (g .1 .1) a′);
 }
 
-module _ (m : Mem) (c : Control) (h : Kept) (p : Fast) (i v : ℕ) (k : KeptOk m c h) where
+pub pages-move-on : (m m′ : Mem) (c : Control) (h : Kept) (d : List ℕ) → Spared m m′ c (h .table) → PagesOk m c h d → PagesOk m′ c h d
+pages-move-on m m′ c h d g k = (moves-on m m′ c false h g (k .0), λ j. moves-on m m′ c _ (pageIn d (h .table) j) g (k .1 j))
+
+module _ (m : Mem) (c : Control) (t : ℕ) (p : Fast) (i v : ℕ) where
   saved-all : stores p ≡ true → patches (placed (spotted p i) v) m ≡ saved p i v m
   unfolding saved
   saved-all s = rw s
 
-  pub unsaved : stores p ≡ false → (m ≡ saved p i v m) × (KeptOk m c h)
+  pub unsaved : stores p ≡ false → (m ≡ saved p i v m) × (true ≡ true → Spared m m c t)
   unfolding saved
-  unsaved s = (rw s, k)
+  unsaved s = (rw s, λ _. (refl, (λ _ _. refl, λ _ _. refl)))
 
-  pub dropped : {m′ : Mem} {r : Kept} → stores p ≡ true → m′ ≡ patches (placed (spotted p i) v) m → r .page ≡ 4294967295 → (m′ ≡ saved p i v m) × (KeptOk m′ c r)
-  dropped s e n = (e ∙ saved-all s, no-page-ok _ c _ n)
-
-  pub stayed : {m′ : Mem} → stores p ≡ true → m′ ≡ patches (placed (spotted p i) v) m → (i / 4096 ≡ h .table → ⊥) → ((i + 3) / 4096 ≡ h .table → ⊥)
-      → (i / 4096 ≡ dirFrame c → ⊥) → ((i + 3) / 4096 ≡ dirFrame c → ⊥) → (m′ ≡ saved p i v m) × (KeptOk m′ c h)
+  spared : {m′ : Mem} → m′ ≡ patches (placed (spotted p i) v) m → (i / 4096 ≡ t → ⊥) → ((i + 3) / 4096 ≡ t → ⊥) → (i / 4096 ≡ dirFrame c → ⊥) → ((i + 3) / 4096 ≡ dirFrame c → ⊥)
+      → Spared m m′ c t
   unfolding placed patches patch
-  stayed {m′ = m′} s e t t′ d d′ = (e ∙ saved-all s, by (p .wide) refl)
+  spared {m′ = m′} e a a′ b b′ = by (p .wide) refl
     where
-      by : (w : Bool) → p .wide ≡ w → KeptOk m′ c h
+      by : (w : Bool) → p .wide ≡ w → Spared m m′ c t
       by true w =
           let e′ : m′ ≡ four m i v = e ∙ rw w refl in
-          rw e′ (moves-on m (four m i v) c h (four-length m i v) (four-agree m i v (dirFrame c) d d′) (four-agree m i v (h .table) t t′) k)
+          rw e′ (four-length m i v, (four-agree m i v (dirFrame c) b b′, four-agree m i v t a a′))
       by false w =
           let e′ : m′ ≡ set m i (v % 256) = e ∙ rw w refl in
-          rw e′ (moves-on m (set m i (v % 256)) c h (length-set m i _) (one-agree m i v (dirFrame c) d) (one-agree m i v (h .table) t) k)
+          rw e′ (length-set m i _, (one-agree m i v (dirFrame c) b, one-agree m i v t a))
+
+  pub stored : {m′ : Mem} → stores p ≡ true → m′ ≡ patches (placed (spotted p i) v) m
+      → (m′ ≡ saved p i v m) × (not (eqb (i / 4096) t || eqb ((i + 3) / 4096) t || eqb (i / 4096) (dirFrame c) || eqb ((i + 3) / 4096) (dirFrame c)) ≡ true → Spared m m′ c t)
+  stored s e = (e ∙ saved-all s, λ h. let n = apart-four _ _ _ _ (not-true _ h) in spared e (n .0) (n .1 .0) (n .1 .1 .0) (n .1 .1 .1))
 
 -- ---- from the code's tests
-
-or-false : (a b : Bool) → a || b ≡ false → (a ≡ false) × (b ≡ false)
-or-false false b e = (refl, e)
-or-false true b e = absurd (false≢true (sym e))
-
-pub apart-four : (x y t d : ℕ) → (eqb x t || eqb y t || eqb x d || eqb y d) ≡ false
-    → (x ≡ t → ⊥) × ((y ≡ t → ⊥) × ((x ≡ d → ⊥) × (y ≡ d → ⊥)))
-apart-four x y t d e =
-    let e3 = or-false (eqb x t || eqb y t || eqb x d) (eqb y d) e in
-    let e2 = or-false (eqb x t || eqb y t) (eqb x d) (e3 .0) in
-    let e1 = or-false (eqb x t) (eqb y t) (e2 .0) in
-    (eqb-false _ _ (e1 .0), (eqb-false _ _ (e1 .1), (eqb-false _ _ (e2 .1), eqb-false _ _ (e3 .1))))
 
 pub near-enough : (w : Bool) (x : ℕ) → (w && ltb 4092 x) ≡ false → w ≡ true → x ≤ 4092
 near-enough true x e h = ltb-false _ _ e
@@ -223,3 +238,8 @@ near-enough false x e h = absurd (false≢true h)
 -- the quick walk's answer, in the case at hand
 pub ready-at : {m : Mem} {c : Control} {w : Bool} {l : ℕ} {t : Settled} {i : Physical} → t ≡ Ready i → SettledOk m c w l t → Quiet m c w l i
 ready-at e h = rw e at h
+
+-- pages of data stay where the next code page's entry is in their table
+pub same-table : (m : Mem) (c : Control) (d : List ℕ) (t : ℕ) (b : Bool) (k : Kept) → (b && eqb (k .table) t) ≡ true → (b ≡ true → HeldOk m c t d) → HeldOk m c (k .table) d
+same-table m c d t true k e h = rw (eqb-true (k .table) t e) (h refl)
+same-table m c d t false k e h = absurd (false≢true e)

@@ -24,6 +24,7 @@ use Rattle.machine.specs.Run.{step}
 use Rattle.paging.specs.declared.Marks.the-variants.{None}
 use Rattle.paging.specs.declared.Translated.the-variants.{Reached}
 use Rattle.paging.specs.Walked.{patchesOf}
+use Rattle.paging.specs.declared.quiet.Kept.{Kept}
 use Rattle.paging.specs.Quiet.{Quiet, KeptOk}
 use Rattle.access.specs.declared.Trail.{Trail}
 use Rattle.access.specs.Located.{trailMarks, placed, puts}
@@ -33,13 +34,13 @@ use Rattle.execute.specs.Execute.{compute}
 use Rattle.shortcut.specs.declared.Fast.{Fast}
 use Rattle.shortcut.specs.Bytes.{Shows}
 use Rattle.shortcut.specs.Forms.{file}
-use Rattle.shortcut.specs.Shortcut.{asks, stores, outOf, resultOf, stacked, depositOf, registersAfter, nextOf, coreAfter, doubledIn, doubledOf, doubledAfter, FitsTo, coreFrom, Idle, FastOk}
+use Rattle.shortcut.specs.Shortcut.{asks, stores, leftOf, rightOf, outOf, resultOf, stacked, depositOf, registersAfter, nextOf, coreAfter, doubledIn, doubledOf, doubledAfter, FitsTo, coreFrom, Idle, FastOk}
 use Rattle.phases.specs.declared.Planned.{Planned}
 use Rattle.swift.specs.declared.Rest.{Rest}
 use Rattle.swift.specs.declared.Sought.{Sought}
 use Rattle.phases.specs.Step.{micro32}
 use Rattle.phases.specs.Planned.{left}
-use Rattle.swift.specs.Swift.{spotted, saved, Reaches, current, SwiftOk}
+use Rattle.swift.specs.Swift.{spotted, saved, Reaches, PagesOk, current, SwiftOk}
 use Rattle.swift.proofs.Packed.{core-back, core-again}
 use Rattle.swift.proofs.Seeking.{none-reached}
 use Rattle.phases.proofs.Plans.{ready}
@@ -56,8 +57,8 @@ saved-same p i v v′ m h = by (stores p) h
 -- ---- accesses that store nothing and leave the stack, and jumps
 
 -- no access
-abbrev nowhere : Sought
-nowhere = record { found = true; at = 0; value = 0 }
+abbrev nowhere : Fast → Sought
+nowhere p = record { found = true; at = 0; value = 0; x = p .x; y = p .y }
 
 module _ (p : Fast) (h : p .access < 3) where
   no : (n : ℕ) → 3 ≤ n → asks n p ≡ false
@@ -89,8 +90,8 @@ module _ (p : Fast) (idle : Idle p) where
   unfolding resultOf outOf operate operation
   idle-result a s = rw (idle .1 .0)
 
-module _ (m : Mem) (size : length m % 4096 ≡ 0) (e : List ℕ) (r : Rest) (d : Cpu) (kept : KeptOk m (d .control) (r .kept)) (small : r .eip < 4294967296)
-    (page : r .eip / 4096 ≡ r .kept .page) (room : r .eip % 4096 ≤ 4080) where
+module _ (m : Mem) (size : length m % 4096 ≡ 0) (e : List ℕ) (r : Rest) (h : Kept) (d : Cpu) (kept : KeptOk m (d .control) false h) (small : r .eip < 4294967296)
+    (page : r .eip / 4096 ≡ h .page) (room : r .eip % 4096 ≤ 4080) where
   abbrev c : Control
   c = d .control
 
@@ -98,27 +99,27 @@ module _ (m : Mem) (size : length m % 4096 ≡ 0) (e : List ℕ) (r : Rest) (d :
   eip = r .eip
 
   abbrev start : ℕ
-  start = r .kept .base + eip % 4096
+  start = h .base + eip % 4096
 
-  a-page : r .kept .page < 1048576
+  a-page : h .page < 1048576
   a-page = omega (arith, page)
 
   -- every byte of the instruction lies on the kept page
-  quiet : (l : ℕ) → l < 4294967296 → l / 4096 ≡ r .kept .page → Quiet m c false l (record { 0 = r .kept .base + l % 4096 })
-  quiet l s h = kept .stays a-page m refl (λ i _. refl) (λ i _. refl) l s h
+  quiet : (l : ℕ) → l < 4294967296 → l / 4096 ≡ h .page → Quiet m c false l (record { 0 = h .base + l % 4096 })
+  quiet l s g = kept .stays a-page m refl (λ i _. refl) (λ i _. refl) l s g
 
   shown : Shows (view m c) m eip start
   unfolding view
-  shown n h =
+  shown n u =
       let w : eip + n ≡ wrap (eip + n) = omega arith in
       let s : eip + n < 4294967296 = omega arith in
-      let g : (eip + n) / 4096 ≡ r .kept .page = same-page n h in
-      let i : r .kept .base + (eip + n) % 4096 ≡ start + n = omega arith in
+      let g : (eip + n) / 4096 ≡ h .page = same-page n u in
+      let i : h .base + (eip + n) % 4096 ≡ start + n = omega arith in
       let t : translate m c false (eip + n) ≡ At (start + n) = sym (quiet (eip + n) s g .walked .reached) ∙ ap At i in
       rw (← w, t)
     where
-      same-page : (n : ℕ) → n < 16 → (eip + n) / 4096 ≡ r .kept .page
-      same-page n h = let z : (eip + n) / 4096 ≡ eip / 4096 = omega arith in z ∙ page
+      same-page : (n : ℕ) → n < 16 → (eip + n) / 4096 ≡ h .page
+      same-page n u = let z : (eip + n) / 4096 ≡ eip / 4096 = omega arith in z ∙ page
 
   abbrev int : Bool
   int = has 512 (d .eflags)
@@ -189,60 +190,66 @@ module _ (d : Cpu) (e : List ℕ) (r : Rest) (p : Fast) where
   doubled r′ ee ei es =
       λ j. withCore d (record { regs = record { e = ee j }; eip = ei j; flags = record { status = es j; interrupt = has 512 (d .eflags); direction = has 1024 (d .eflags) } })
 
+-- the result of the operands that were found
+pub of-operands : (p : Fast) (q : Sought) (s : Status) {o : Out} → (q .x ≡ leftOf p (q .value)) × (q .y ≡ rightOf p (q .value)) → o ≡ outOf (p .op) (p .wide) (q .x) (q .y) s
+    → o ≡ resultOf p (q .value) s
+unfolding resultOf
+of-operands p q s g eo = eo ∙ (λ j. outOf (p .op) (p .wide) (g .0 j) (g .1 j) s)
+
 -- ---- what the code's step answers
 
-module _ (m : Mem) (e : List ℕ) (c : Control) (r : Rest) (kept : KeptOk m c (r .kept)) where
-  pub unmoved : SwiftOk m e c r m e (record { done = false; rest = r })
-  unmoved = record { did = λ h. absurd (false≢true h); not = λ _. (refl, (refl, (refl, refl))); kept = kept }
+module _ (m : Mem) (e : List ℕ) (c : Control) (r : Rest) (h : Kept) (d′ : List ℕ) where
+  pub unmoved : PagesOk m c h d′ → SwiftOk m e c r h m e d′ (record { done = false; holds = true; rest = r })
+  unmoved kept = record { did = λ w. absurd (false≢true w); not = λ _. (refl, (refl, (refl, refl))); kept = λ _. kept }
 
-  pub hopped : (size : length m % 4096 ≡ 0) (small : r .eip < 4294967296) (page : r .eip / 4096 ≡ r .kept .page) (room : r .eip % 4096 ≤ 4080) (i : ℕ) (p : Fast) (q : Sought)
-      → i ≡ r .kept .base + r .eip % 4096 → FastOk m e (statusIn (r .flags)) (r .eip) i p → p .taken ≡ true → Reaches m c p q → q .value < 4294967296
-      → {m′ : Mem} {e′ : List ℕ} {o : Out} (r′ : Rest) → o ≡ resultOf p (q .value) (statusIn (r .flags)) → m′ ≡ saved p (q .at) (o .value) m
-      → e′ ≡ registersAfter p (file e) (o .value) .e → r′ .eip ≡ nextOf p (q .value) → statusIn (r′ .flags) ≡ o .status → KeptOk m′ c (r′ .kept)
-      → SwiftOk m e c r m′ e′ (record { done = true; rest = r′ })
-  hopped size small page room i p q ei′ fast taken found few {o = o} r′ eo em ee ei es kept′ = record {
-    did = λ _ d hc good.
-        let k : KeptOk m (d .control) (r .kept) = rw hc kept in
-        let f : FastOk m e (statusIn (r .flags)) (r .eip) (r .kept .base + r .eip % 4096) p = rw ei′ at fast in
-        quick-step m size e r d k small page room p q (λ a. coreAfter p (from d e r p) a) (f .fits taken _ _ (view m (d .control)) (shown m size e r d k small page room)) (rw hc found) few good (o .value) r′
-        (λ _. ap (λ (x : Out). x .value) eo) em (advanced d e r p (q .value) r′ eo ee ei es);
-    not = λ h. absurd (false≢true (sym h));
-    kept = kept′;
-  }
+  module _ (kept : KeptOk m c false h) (size : length m % 4096 ≡ 0) (small : r .eip < 4294967296) (page : r .eip / 4096 ≡ h .page) (room : r .eip % 4096 ≤ 4080) (i : ℕ) (p : Fast)
+      (start : i ≡ h .base + r .eip % 4096) (fast : FastOk m e (statusIn (r .flags)) (r .eip) i p) (r′ : Rest) where
+    abbrev hop-fast : FastOk m e (statusIn (r .flags)) (r .eip) (h .base + r .eip % 4096) p
+    hop-fast = rw start at fast
 
-  module _ (size : length m % 4096 ≡ 0) (small : r .eip < 4294967296) (page : r .eip / 4096 ≡ r .kept .page) (room : r .eip % 4096 ≤ 4080) (i : ℕ) (p : Fast)
-      (start : i ≡ r .kept .base + r .eip % 4096) (fast : FastOk m e (statusIn (r .flags)) (r .eip) i p) (taken : p .taken ≡ true) where
+    pub hopped : (g : Bool) (q : Sought) → p .taken ≡ true → Reaches m c p q → q .value < 4294967296
+        → {m′ : Mem} {e′ : List ℕ} {o : Out} → o ≡ resultOf p (q .value) (statusIn (r .flags)) → m′ ≡ saved p (q .at) (o .value) m
+        → e′ ≡ registersAfter p (file e) (o .value) .e → r′ .eip ≡ nextOf p (q .value) → statusIn (r′ .flags) ≡ o .status → (g ≡ true → PagesOk m′ c h d′)
+        → SwiftOk m e c r h m′ e′ d′ (record { done = true; holds = g; rest = r′ })
+    hopped g q taken found few {o = o} eo em ee ei es kept′ = record {
+      did = λ _ d hc good.
+          let k : KeptOk m (d .control) false h = rw hc kept in
+          quick-step m size e r h d k small page room p q (λ a. coreAfter p (from d e r p) a) (hop-fast .fits taken _ _ (view m (d .control)) (shown m size e r h d k small page room)) (rw hc found) few good
+          (o .value) r′ (λ _. ap (λ (x : Out). x .value) eo) em (advanced d e r p (q .value) r′ eo ee ei es);
+      not = λ w. absurd (false≢true (sym w));
+      kept = kept′;
+    }
+
     -- nothing is stored, and the stack stays
-    pub few-hopped : (q : Sought) → Reaches m c p q → q .value < 4294967296 → p .access < 3
-        → {e′ : List ℕ} {o : Out} (r′ : Rest) → o ≡ resultOf p (q .value) (statusIn (r .flags)) → e′ ≡ depositOf p (file e) (o .value) .e
-        → r′ .eip ≡ p .next → statusIn (r′ .flags) ≡ o .status → KeptOk m c (r′ .kept) → SwiftOk m e c r m e′ (record { done = true; rest = r′ })
-    few-hopped q found few h {o = o} r′ eo ee ei es kept′ =
-        hopped size small page room i p q start fast taken found few r′ eo (sym (few-saved p h (q .at) (o .value) m))
-        (ee ∙ ap (λ (x : Registers). depositOf p x (o .value) .e) (sym (few-stacked p h (file e)))) (ei ∙ sym (few-next p h (q .value))) es kept′
+    pub few-hopped : (q : Sought) → p .taken ≡ true → Reaches m c p q → q .value < 4294967296 → p .access < 3
+        → {e′ : List ℕ} {o : Out} → o ≡ resultOf p (q .value) (statusIn (r .flags)) → e′ ≡ depositOf p (file e) (o .value) .e
+        → r′ .eip ≡ p .next → statusIn (r′ .flags) ≡ o .status → PagesOk m c h d′ → SwiftOk m e c r h m e′ d′ (record { done = true; holds = true; rest = r′ })
+    few-hopped q taken found few k {o = o} eo ee ei es kept′ =
+        hopped true q taken found few eo (sym (few-saved p k (q .at) (o .value) m))
+        (ee ∙ ap (λ (x : Registers). depositOf p x (o .value) .e) (sym (few-stacked p k (file e)))) (ei ∙ sym (few-next p k (q .value))) es (λ _. kept′)
 
-    pub jumped : p .jumps ≡ true → (r′ : Rest) → r′ .eip ≡ p .next → r′ .flags ≡ r .flags → KeptOk m c (r′ .kept) → SwiftOk m e c r m e (record { done = true; rest = r′ })
-    jumped jumps r′ ei ef kept′ =
+    pub jumped : p .taken ≡ true → p .jumps ≡ true → r′ .eip ≡ p .next → r′ .flags ≡ r .flags → PagesOk m c h d′ → SwiftOk m e c r h m e d′ (record { done = true; holds = true; rest = r′ })
+    jumped taken jumps ei ef kept′ =
         let idle = fast .idle jumps in
-        few-hopped nowhere (none-reached m c p nowhere (idle .0) refl) (omega arith) (omega (arith, idle .0)) r′ (sym (idle-result p idle 0 (statusIn (r .flags)))) (sym (idle-deposit p idle (file e) _)) ei (ap statusIn ef) kept′
+        few-hopped (nowhere p) taken (none-reached m c p (nowhere p) (idle .0) refl refl refl) (omega arith) (omega (arith, idle .0)) (sym (idle-result p idle 0 (statusIn (r .flags))))
+        (sym (idle-deposit p idle (file e) _)) ei (ap statusIn ef) kept′
 
-  -- MUL
-  pub double-hopped : (size : length m % 4096 ≡ 0) (small : r .eip < 4294967296) (page : r .eip / 4096 ≡ r .kept .page) (room : r .eip % 4096 ≤ 4080) (i : ℕ) (p : Fast)
-      → i ≡ r .kept .base + r .eip % 4096 → FastOk m e (statusIn (r .flags)) (r .eip) i p → p .doubling ≡ true
-      → {e′ : List ℕ} (r′ : Rest) → e′ ≡ withRegister (withRegister (file e) 0 (doubledIn p e (statusIn (r .flags)) .low)) 2 (doubledIn p e (statusIn (r .flags)) .high) .e
-      → r′ .eip ≡ p .next → statusIn (r′ .flags) ≡ doubledIn p e (statusIn (r .flags)) .status → KeptOk m c (r′ .kept) → SwiftOk m e c r m e′ (record { done = true; rest = r′ })
-  unfolding doubledAfter
-  double-hopped size small page room i p ei′ fast doubling r′ ee ei es kept′ = record {
-    did = λ _ d hc good.
-        let k : KeptOk m (d .control) (r .kept) = rw hc kept in
-        let g : FastOk m e (statusIn (r .flags)) (r .eip) (r .kept .base + r .eip % 4096) p = rw ei′ at fast in
-        let f = g .doubles doubling in
-        let few : p .access < 3 = omega (arith, f .0) in
-        quick-step m size e r d k small page room p nowhere (λ a. doubledAfter p (from d e r p)) (f .1 _ _ (view m (d .control)) (shown m size e r d k small page room)) (none-reached m (d .control) p nowhere (f .0) refl)
-        (omega arith) good 0 r′ (λ h. absurd (false≢true (sym (few-stores p few) ∙ h))) (sym (few-saved p few 0 0 m)) (doubled d e r p r′ ee ei es);
-    not = λ h. absurd (false≢true (sym h));
-    kept = kept′;
-  }
+    -- MUL
+    pub double-hopped : p .doubling ≡ true
+        → {e′ : List ℕ} → e′ ≡ withRegister (withRegister (file e) 0 (doubledIn p e (statusIn (r .flags)) .low)) 2 (doubledIn p e (statusIn (r .flags)) .high) .e
+        → r′ .eip ≡ p .next → statusIn (r′ .flags) ≡ doubledIn p e (statusIn (r .flags)) .status → PagesOk m c h d′ → SwiftOk m e c r h m e′ d′ (record { done = true; holds = true; rest = r′ })
+    unfolding doubledAfter
+    double-hopped doubling ee ei es kept′ = record {
+      did = λ _ d hc good.
+          let k : KeptOk m (d .control) false h = rw hc kept in
+          let f = hop-fast .doubles doubling in
+          let few : p .access < 3 = omega (arith, f .0) in
+          quick-step m size e r h d k small page room p (nowhere p) (λ a. doubledAfter p (from d e r p)) (f .1 _ _ (view m (d .control)) (shown m size e r h d k small page room))
+          (none-reached m (d .control) p (nowhere p) (f .0) refl refl refl) (omega arith) good 0 r′ (λ w. absurd (false≢true (sym (few-stores p few) ∙ w))) (sym (few-saved p few 0 0 m)) (doubled d e r p r′ ee ei es);
+      not = λ w. absurd (false≢true (sym w));
+      kept = λ _. kept′;
+    }
 
-  -- the instruction's bytes are there
-  pub room-for : (i : ℕ) → r .eip < 4294967296 → r .eip / 4096 ≡ r .kept .page → r .eip % 4096 ≤ 4080 → i ≡ r .kept .base + r .eip % 4096 → i + 16 ≤ length m
-  room-for i small page room e = let w : r .kept .base + 4096 < length m + 1 = kept .whole (omega (arith, page)) in omega (arith, w, room)
+-- the instruction's bytes are there
+pub room-for : (m : Mem) (c : Control) (h : Kept) (eip i : ℕ) → KeptOk m c false h → eip < 4294967296 → eip / 4096 ≡ h .page → eip % 4096 ≤ 4080 → i ≡ h .base + eip % 4096 → i + 16 ≤ length m
+room-for m c h eip i kept small page room e = let w : h .base + 4096 < length m + 1 = kept .whole (omega (arith, page)) in omega (arith, w, room)

@@ -1,23 +1,26 @@
--- The quick way through a run: a step in its short form, on a code page that is kept, where nothing can refuse and nothing is left to mark.
+-- The quick way through a run: a step in its short form, on pages that are kept, where nothing can refuse and nothing is left to mark.
 -- Assumes nothing.
 use Prim.Native.Nat.{ℕ, _+_, _-_, _/_, _%_, _≤_}
 use mathlib.Core.Path.{_≡_}
 use mathlib.Core.Bool.{Bool, true, false, cond}
 use mathlib.Core.List.{List}
+use lib.ListN.{length}
 use Rattle.alu.specs.Brief.{statusIn}
 use Rattle.machine.specs.declared.Control.{Control}
 use Rattle.machine.specs.declared.Cpu.{Cpu}
 use Rattle.machine.specs.declared.Reply.the-variants.{Done}
 use Rattle.machine.specs.Record.{Mem, has, sound, withCore}
+use Rattle.machine.specs.Paging.{dirFrame}
 use Rattle.machine.specs.Commit.{patches}
 use Rattle.machine.specs.Run.{End, step, steps}
-use Rattle.paging.specs.Quiet.{KeptOk}
+use Rattle.paging.specs.declared.quiet.Kept.{Kept}
+use Rattle.paging.specs.Quiet.{Agree, KeptOk, HeldOk}
 use Rattle.access.specs.declared.Access.{Access}
 use Rattle.access.specs.declared.Place.{Place}
 use Rattle.access.specs.declared.Place.the-variants.{Byte, Near}
 use Rattle.access.specs.Located.{Held, placed, puts}
 use Rattle.shortcut.specs.declared.Fast.{Fast}
-use Rattle.shortcut.specs.Shortcut.{wantFirst, wantSecond, stores, coreFrom}
+use Rattle.shortcut.specs.Shortcut.{asks, wantFirst, wantSecond, stores, leftOf, rightOf, coreFrom}
 use Rattle.swift.specs.declared.Rest.{Rest}
 use Rattle.swift.specs.declared.Swift.{Swift}
 use Rattle.swift.specs.declared.Sought.{Sought}
@@ -33,6 +36,12 @@ spotted p i = cond (p .wide) (Near (record { 0 = i })) (Byte (record { 0 = i }))
 unfoldable pub saved : Fast → ℕ → ℕ → Mem → Mem
 saved p i x m = cond (stores p) (patches (placed (spotted p i) x) m) m
 
+-- v is what lies there, which a push does not ask for; with it both operands are known
+pub record Holds (p : Fast) (v : ℕ) (q : Sought) : Type 0 where
+  pub value : q .value ≡ cond (asks 4 p) 0 v
+  pub left : q .x ≡ leftOf p (q .value)
+  pub right : q .y ≡ rightOf p (q .value)
+
 -- both accesses of the instruction are found, and no mark is left to make
 pub record Reaches (m : Mem) (c : Control) (p : Fast) (q : Sought) : Type 0 where
   pub one : Access
@@ -40,21 +49,32 @@ pub record Reaches (m : Mem) (c : Control) (p : Fast) (q : Sought) : Type 0 wher
   pub firstly : Held m c (wantFirst p) one
   pub secondly : Held m c (wantSecond p) two
   pub value : one .value ≡ q .value
+  pub operands : (q .x ≡ leftOf p (q .value)) × (q .y ≡ rightOf p (q .value))
   pub quiet : accessMarks two (accessMarks one m) ≡ m
   pub left : (x : ℕ) → patches (puts two x) (patches (puts one x) m) ≡ saved p (q .at) x m
+
+-- ---- the pages that are kept
+
+-- the directory's frame and the table's are as they were
+abbrev pub Spared : Mem → Mem → Control → ℕ → Type 0
+Spared m m′ c t = (length m′ ≡ length m) × ((Agree m m′ (dirFrame c)) × (Agree m m′ t))
+
+-- the code page, and pages of data that have their entries in its table
+abbrev pub PagesOk : Mem → Control → Kept → List ℕ → Type 0
+PagesOk m c h d = (KeptOk m c false h) × (HeldOk m c (h .table) d)
 
 -- ---- the record, while its parts are kept apart: what a quick step can't change is in d
 
 abbrev pub current : Cpu → List ℕ → Rest → Cpu
 current d e r = withCore d (coreFrom e (r .eip) (statusIn (r .flags)) (has 512 (d .eflags)) (has 1024 (d .eflags)))
 
--- ---- one step: it is the definition's, or nothing is changed
+-- ---- one step, on the code page h: it is the definition's, or nothing is changed
 
-pub record SwiftOk (m : Mem) (e : List ℕ) (c : Control) (r : Rest) (m′ : Mem) (e′ : List ℕ) (w : Swift) : Type 0 where
+pub record SwiftOk (m : Mem) (e : List ℕ) (c : Control) (r : Rest) (h : Kept) (m′ : Mem) (e′ d′ : List ℕ) (w : Swift) : Type 0 where
   pub did : w .done ≡ true → (d : Cpu) → d .control ≡ c → sound m (current d e r) ≡ true
       → record { reply = Done; cpu = current d e′ (w .rest); mem = m′ } ≡ step micro32 m (current d e r)
   pub not : w .done ≡ false → (m′ ≡ m) × ((e′ ≡ e) × ((w .rest .eip ≡ r .eip) × (w .rest .flags ≡ r .flags)))
-  pub kept : KeptOk m′ c (w .rest .kept)
+  pub kept : w .holds ≡ true → PagesOk m′ c h d′
 
 -- ---- n quick steps are n steps of the definition
 

@@ -1,5 +1,5 @@
-// The quick way through a run: instructions in their short form, on a code page that is kept. Where it cannot go on it changes nothing, and
-// the complete step takes over.
+// The quick way through a run: instructions in their short form, on pages that are kept. Where it cannot go on it changes nothing, and the
+// complete step takes over.
 ghost use mathlib.Core.Path.{_≡_};
 ghost use mathlib.Core.Bool.{true, false, cond};
 ghost use Prim.Native.Nat.{_+_, _-_, _*_, _/_, _%_, _<_, _≤_};
@@ -10,10 +10,10 @@ ghost use Rattle.machine.specs.Record.{at, flagsIn};
 ghost use Rattle.machine.specs.Paging.{dwordAt};
 ghost use Rattle.machine.specs.Commit.{patches};
 ghost use Rattle.encoding.specs.Encodings.{Classed};
-ghost use Rattle.paging.specs.Quiet.{KeptOk};
+ghost use Rattle.paging.specs.Quiet.{HeldOk};
 ghost use Rattle.access.specs.Located.{placed};
 ghost use Rattle.shortcut.specs.Shortcut.{nextOf};
-ghost use Rattle.swift.specs.Swift.{saved, spotted, Reaches, current, SwiftOk, RushOk, DashOk};
+ghost use Rattle.swift.specs.Swift.{saved, spotted, Holds, Reaches, Spared, PagesOk, current, SwiftOk, RushOk, DashOk};
 use alu::Status;
 use alu::brief::Brief;
 use machine::Control;
@@ -26,24 +26,26 @@ use paging::quiet::Kept;
 use paging::quiet::Settled;
 use shortcut::Fast;
 
-// EIP, the status flags, and the code page that is kept.
+// EIP and the status flags.
 struct Rest {
     eip: u32,
     flags: Brief,
-    kept: Kept,
 }
 
-// What a quick step answers: is it done, and where the run stands.
+// What a quick step answers: is it done, do the pages that are kept hold on, and where the run stands.
 struct Swift {
     done: bool,
+    holds: bool,
     rest: Rest,
 }
 
-// The access of an instruction: is it found; the index in memory and the value there.
+// The access of an instruction: is it found; the index in memory and the value there; both operands.
 struct Sought {
     found: bool,
     at: usize,
     value: u32,
+    x: u32,
+    y: u32,
 }
 
 // How many quick steps there were, and where the run stands.
@@ -76,6 +78,8 @@ fn unsought() -> Sought
         found: false,
         at: 0,
         value: 0,
+        x: 0,
+        y: 0,
     }
 }
 
@@ -88,36 +92,57 @@ fn load(mem: &[u8], w: bool, p: Physical) -> u32
     paging::byte_at(mem, p.index())
 }
 
-fn none_for_push(access: u32, v: u32) -> u32
-    ensures { λ r. ⌜ r ≡ cond (eqb access 4) 0 v ⌝ }
+fn either(c: bool, a: u32, b: u32) -> u32
+    ensures { λ r. ⌜ r ≡ cond c a b ⌝ }
 {
-    if access == 4 { 0 } else { v }
+    if c { a } else { b }
+}
+
+// Reads what the instruction asks for at i; a push asks for nothing.
+fn loaded(mem: &[u8], p: Fast, i: Physical) -> Sought
+    ensures { λ r. ⌜ (r .found ≡ true) × ((r .at < 4294967296) × ((r .at ≡ i .0) × (Holds p (cond (p .wide) (dwordAt (now (mem .entry)) (i .0)) (at (now (mem .entry)) (i .0))) r))) ⌝ }
+{
+    if p.access == 4 {
+        return Sought {
+            found: true,
+            at: i.index(),
+            value: 0,
+            x: p.x,
+            y: p.y,
+        };
+    }
+    let v = load(mem, p.wide, i);
+    Sought {
+        found: true,
+        at: i.index(),
+        value: v,
+        x: either((p.access == 1) | (p.access == 3), v, p.x),
+        y: either((p.access == 2) | (p.access == 5), v, p.y),
+    }
 }
 
 // Finds the access; memory is only read.
-fn seek(mem: &[u8], c: Control, p: Fast) -> Sought
-    requires { ⌜ length (now mem) % 4096 ≡ 0 ⌝ }
-    ensures { λ r. ⌜ (r .at < 4294967296) × ((r .value < 4294967296) × (r .found ≡ true → Reaches (now (mem .entry)) c p r)) ⌝ }
+fn seek(mem: &[u8], c: Control, d: &mut [u64], table: u32, p: Fast) -> Sought
+    requires { ⌜ (length (now mem) % 4096 ≡ 0) × (HeldOk (now mem) c table (now d)) ⌝ }
+    ensures { λ r. ⌜ (r .at < 4294967296) × ((r .value < 4294967296) × ((r .found ≡ true → Reaches (now (mem .entry)) c p r) × (HeldOk (now (mem .entry)) c table (now (d .exit))))) ⌝ }
 {
     if p.access == 0 {
         return Sought {
             found: true,
             at: 0,
             value: 0,
+            x: p.x,
+            y: p.y,
         };
     }
     if p.wide & (4092 < p.at % 4096) {
         return unsought();
     }
-    let q = paging::quiet::reach(mem, c, (p.access == 3) | (p.access == 4), p.at);
+    let q = paging::held::find(mem, c, d, table, (p.access == 3) | (p.access == 4), p.at);
     let Settled::Ready(i) = q else {
         return unsought();
     };
-    Sought {
-        found: true,
-        at: i.index(),
-        value: none_for_push(p.access, load(mem, p.wide, i)),
-    }
+    loaded(mem, p, i)
 }
 
 fn put(mem: &mut [u8], i: usize, b: u8)
@@ -156,22 +181,19 @@ fn store_at(mem: &mut [u8], p: Fast, i: usize, v: u32)
     put(mem, i, (v % 256) as u8);
 }
 
-// Stores the result, and drops the code page where an entry of the maps may have been stored to.
-fn save(mem: &mut [u8], c: Control, h: Kept, p: Fast, i: usize, v: u32) -> Kept
-    requires { ⌜ (KeptOk (now mem) c h) × (i < 4294967296) ⌝ }
-    ensures { λ r. ⌜ (now (mem .exit) ≡ saved p i v (now (mem .entry))) × (KeptOk (now (mem .exit)) c r) ⌝ }
+// Stores the result; answers whether the maps are surely as they were.
+fn save(mem: &mut [u8], c: Control, table: u32, p: Fast, i: usize, v: u32) -> bool
+    requires { ⌜ i < 4294967296 ⌝ }
+    ensures { λ r. ⌜ (now (mem .exit) ≡ saved p i v (now (mem .entry))) × (r ≡ true → Spared (now (mem .entry)) (now (mem .exit)) c table) ⌝ }
 {
     if !((p.access == 3) | (p.access == 4)) {
-        return h;
+        return true;
     }
     store_at(mem, p, i, v);
     let first = (i / 4096) as u32;
     let last = ((i + 3) / 4096) as u32;
     let dir = c.cr3 / 4096;
-    if (first == h.table) | (last == h.table) | (first == dir) | (last == dir) {
-        return paging::quiet::no_page();
-    }
-    h
+    !((first == table) | (last == table) | (first == dir) | (last == dir))
 }
 
 fn next(p: Fast, a: u32) -> u32
@@ -181,117 +203,122 @@ fn next(p: Fast, a: u32) -> u32
 }
 
 fn unmoved(r: Rest) -> Swift
-    ensures { λ w. ⌜ w ≡ record { done = false; rest = r } ⌝ }
+    ensures { λ w. ⌜ w ≡ record { done = false; holds = true; rest = r } ⌝ }
 {
     Swift {
         done: false,
+        holds: true,
         rest: r,
     }
 }
 
-fn moved(eip: u32, flags: Brief, kept: Kept) -> Swift
-    ensures { λ w. ⌜ w ≡ record { done = true; rest = record { eip = eip; flags = flags; kept = kept } } ⌝ }
+fn moved(eip: u32, flags: Brief, holds: bool) -> Swift
+    ensures { λ w. ⌜ w ≡ record { done = true; holds = holds; rest = record { eip = eip; flags = flags } } ⌝ }
 {
     Swift {
         done: true,
-        rest: Rest { eip, flags, kept },
+        holds,
+        rest: Rest { eip, flags },
     }
 }
 
-// One quick step, on the page that is kept.
-fn hop(mem: &mut [u8], t: &[u8; 512], e: &mut [u32], c: Control, r: Rest) -> Swift
-    requires { ⌜ (length (now mem) % 4096 ≡ 0) × ((Classed (now t)) × ((KeptOk (now mem) c (r .kept)) × ((r .eip / 4096 ≡ r .kept .page) × ((r .eip % 4096 ≤ 4080) × (r .eip < 4294967296))))) ⌝ }
-    ensures { λ w. ⌜ SwiftOk (now (mem .entry)) (now (e .entry)) c r (now (mem .exit)) (now (e .exit)) w ⌝ }
+// One quick step, on the page h.
+fn hop(
+    mem: &mut [u8],
+    t: &[u8; 512],
+    e: &mut [u32],
+    d: &mut [u64],
+    c: Control,
+    r: Rest,
+    h: Kept,
+) -> Swift
+    requires { ⌜ (length (now mem) % 4096 ≡ 0) × ((Classed (now t)) × ((PagesOk (now mem) c h (now d)) × ((r .eip / 4096 ≡ h .page) × ((r .eip % 4096 ≤ 4080) × (r .eip < 4294967296))))) ⌝ }
+    ensures { λ w. ⌜ SwiftOk (now (mem .entry)) (now (e .entry)) c r h (now (mem .exit)) (now (e .exit)) (now (d .exit)) w ⌝ }
 {
     let eip = r.eip;
     let f = r.flags;
-    let h = r.kept;
     let p = shortcut::quick(mem, t, e, f, eip, h.base as usize + (eip % 4096) as usize);
     if !p.taken {
         if p.doubling {
             let g = shortcut::effect::double(e, p, f);
-            return moved(p.next, g, h);
+            return moved(p.next, g, true);
         }
         return unmoved(r);
     }
     if p.jumps {
-        return moved(p.next, f, h);
+        return moved(p.next, f, true);
     }
-    let q = seek(mem, c, p);
+    let q = seek(mem, c, d, h.table, p);
     if !q.found {
         return unmoved(r);
     }
-    let o = shortcut::effect::result(p, q.value, f);
+    let o = shortcut::effect::result(p, q.x, q.y, f);
     let g = o.flags;
     if p.access < 3 {
         shortcut::effect::deposit(e, p, o.value);
-        return moved(p.next, g, h);
+        return moved(p.next, g, true);
     }
     shortcut::effect::restack(e, p);
     shortcut::effect::deposit(e, p, o.value);
-    let kept = save(mem, c, h, p, q.at, o.value);
-    moved(next(p, q.value), g, kept)
+    let holds = save(mem, c, h.table, p, q.at, o.value);
+    moved(next(p, q.value), g, holds)
 }
 
-// The same place with the page of EIP kept.
-fn turned(mem: &[u8], c: Control, r: Rest) -> Rest
-    ensures { λ h. ⌜ (h .eip ≡ r .eip) × ((h .flags ≡ r .flags) × (KeptOk (now (mem .entry)) c (h .kept))) ⌝ }
+// The code page of EIP, to be kept. Pages of data whose entries are in another table are dropped, and all where they do not hold on.
+fn turned(mem: &[u8], c: Control, d: &mut [u64], table: u32, holds: bool, eip: u32) -> Kept
+    requires { ⌜ (holds ≡ true → HeldOk (now mem) c table (now d)) ⌝ }
+    ensures { λ h. ⌜ PagesOk (now (mem .entry)) c h (now (d .exit)) ⌝ }
 {
-    let flags = r.flags;
-    let k = paging::quiet::code_page(mem, c, r.eip);
-    let kept = apart(k);
-    Rest {
-        eip: r.eip,
-        flags,
-        kept,
+    let k = paging::quiet::page_of(mem, c, false, eip);
+    if holds & (k.table == table) {
+        return apart(k);
     }
-}
-
-// One quick step.
-fn leap(mem: &mut [u8], t: &[u8; 512], e: &mut [u32], c: Control, r: Rest) -> Swift
-    requires { ⌜ (length (now mem) % 4096 ≡ 0) × ((Classed (now t)) × (KeptOk (now mem) c (r .kept))) ⌝ }
-    ensures { λ w. ⌜ SwiftOk (now (mem .entry)) (now (e .entry)) c r (now (mem .exit)) (now (e .exit)) w ⌝ }
-{
-    let eip = r.eip;
-    let h = r.kept;
-    if (eip / 4096 == h.page) & (eip % 4096 <= 4080) {
-        return hop(mem, t, e, c, r);
-    }
-    unmoved(r)
+    paging::held::clear(d);
+    apart(k)
 }
 
 // Quick steps, as many as there can be and at most so many.
-fn rush(mem: &mut [u8], t: &[u8; 512], e: &mut [u32], c: Control, from: Rest, limit: u32) -> Rushed
+fn rush(
+    mem: &mut [u8],
+    t: &[u8; 512],
+    e: &mut [u32],
+    d: &mut [u64],
+    c: Control,
+    from: Rest,
+    limit: u32,
+) -> Rushed
     requires { ⌜ (length (now mem) % 4096 ≡ 0) × (Classed (now t)) ⌝ }
     ensures { λ w. ⌜ (w .count ≤ limit) × (RushOk (now (mem .entry)) (now (e .entry)) c from (w .count) (now (mem .exit)) (now (e .exit)) (w .rest)) ⌝ }
 {
     let mut n: u32 = 0;
-    let mut r = turned(mem, c, from);
+    let mut r = from;
+    let mut h = turned(mem, c, d, 0, false, r.eip);
     while n < limit {
-        let w = leap(mem, t, e, c, r);
+        if !((r.eip / 4096 == h.page) & (r.eip % 4096 <= 4080)) {
+            return Rushed { count: n, rest: r };
+        }
+        let w = hop(mem, t, e, d, c, r, h);
         let next = w.rest;
         r = next;
         if !w.done {
             return Rushed { count: n, rest: r };
         }
         n += 1;
-        let h = r.kept;
-        if r.eip / 4096 != h.page {
-            let k = turned(mem, c, r);
-            r = k;
+        if !w.holds | (r.eip / 4096 != h.page) {
+            let k = turned(mem, c, d, h.table, w.holds, r.eip);
+            h = k;
         }
     }
     Rushed { count: n, rest: r }
 }
 
-// Where a run stands at a record whose flags some dword shows; no code page is kept yet.
+// Where a run stands at a record whose flags some dword shows.
 fn rest_of(eip: u32, s: Status) -> Rest
     requires { ⌜ tellable s ≡ true ⌝ }
-    ensures { λ r. ⌜ (r .eip ≡ eip) × ((statusIn (r .flags) ≡ s) × (r .kept .page ≡ 4294967295)) ⌝ }
+    ensures { λ r. ⌜ (r .eip ≡ eip) × (statusIn (r .flags) ≡ s) ⌝ }
 {
     let flags = alu::brief::brief_of(s);
-    let kept = paging::quiet::no_page();
-    Rest { eip, flags, kept }
+    Rest { eip, flags }
 }
 
 // The record again, from the parts that quick steps keep apart.
@@ -325,8 +352,9 @@ fn dash_on(c: Cpu, mem: &mut [u8], t: &[u8; 512], s: Status, limit: u32) -> Dash
     let k = c.control;
     let file = c.regs;
     let mut e = file.e;
+    let mut d: [u64; 32] = [18446744073709551615; 32];
     let from = rest_of(c.eip, s);
-    let w = rush(mem, t, &mut e, k, from, limit);
+    let w = rush(mem, t, &mut e, &mut d, k, from, limit);
     let r = w.rest;
     let cpu = joined(c, e, r);
     Dashed {

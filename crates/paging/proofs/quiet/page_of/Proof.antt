@@ -1,8 +1,8 @@
 use Rattle.paging.proofs.Settling.{flat-stays, no-page-ok}
 use borrow.Author.Needs.{needs}
 use borrow.Author.Tests.{eq-eqb, ne-eqb}
-use Rattle.paging.proofs.quiet.code_page.Statement.{statement}
-use Rattle.paging.proofs.quiet.code_page.Tie as tie
+use Rattle.paging.proofs.quiet.page_of.Statement.{statement}
+use Rattle.paging.proofs.quiet.page_of.Tie as tie
 
 mapped-page-requires : tie.Need-mapped-page-requires
 mapped-page-requires c κs = eq-eqb _ _ (c .if1 .taken)
@@ -23,13 +23,13 @@ no-page-requires : tie.Need-no-page-requires
 no-page-requires c κs = search needs
 
 returns-2 : tie.Need-returns-2
-returns-2 c = no-page-ok _ _ _ (c .no-page .ensures)
+returns-2 c = no-page-ok _ _ _ _ (c .no-page .ensures)
 
 returns-3 : tie.Need-returns-3
-returns-3 c = flat-stays _ (c .before .before .before .before .args .c) (c .before .before .before .before .args .l) 0 (ne-eqb _ _ (c .before .if1 .left)) (c .if2 .left)
+returns-3 c = flat-stays _ (c .before .before .before .before .args .c) (c .before .before .before .before .args .w) (c .before .before .before .before .args .l) 0 (search needs) (ne-eqb _ _ (c .before .if1 .left)) (c .if2 .left)
 
-pub code-page-spec : {M : Type 1} → statement M
-code-page-spec =
+pub page-of-spec : {M : Type 1} → statement M
+page-of-spec =
     tie.close
     (tie.spec
     mapped-page-requires
