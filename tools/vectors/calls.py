@@ -1,4 +1,5 @@
 """Directed cases of a run and of the audit, written from document 01 by hand: family, rule, what is asked, what is to come of it."""
+import remaps
 from hand import CODE, MAP, SELF, audit, case, no, ran, run
 from layout import BAD, EXPOSED, FAULT, HALT, NO_MEMORY, NOT_BUILT, RUN, SAFE, SPENT, TABLE_OUTSIDE, TRAP
 
@@ -61,4 +62,4 @@ AUDITS = [
     ("Bad record comes before Table outside", audit({}, cr3=0x8000, eflags=0), no(BAD)),
     ("a length that is not sound is a bad record for the audit too", audit({}, size=0x1800), no(BAD)),
 ]
-LIST = [("RUN", *c) for c in RUNS] + [("AUDIT", *c) for c in AUDITS]
+LIST = [("RUN", *c) for c in RUNS + remaps.LIST] + [("AUDIT", *c) for c in AUDITS]
