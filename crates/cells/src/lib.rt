@@ -2,6 +2,7 @@
 ghost use mathlib.Core.Path.{_≡_};
 ghost use Prim.Native.Nat.{_<_};
 ghost use lib.ListN.{getD, set};
+ghost use Rattle.cells.specs.Cells.{dwordIn, withDword, copied};
 
 pub fn byte(b: &[u8], i: usize) -> u8
     ensures { λ r. ⌜ r ≡ getD (now (b .entry)) i 0 ⌝ }
@@ -40,13 +41,15 @@ pub fn put_number(a: &mut [u32], n: u32, x: u32)
 }
 
 fn wide(x: u8) -> u32
-    ensures { λ r. ⌜ r < 256 ⌝ }
+    ensures { λ r. ⌜ (r ≡ x) × (r < 256) ⌝ }
 {
     x as u32
 }
 
 // The dword at a place: its low byte first.
-pub fn dword(b: &[u8], at: u32) -> u32 {
+pub fn dword(b: &[u8], at: u32) -> u32
+    ensures { λ r. ⌜ r ≡ dwordIn (now (b .entry)) at ⌝ }
+{
     let i = at as usize;
     wide(byte(b, i))
         + 256 * wide(byte(b, i + 1))
@@ -54,7 +57,9 @@ pub fn dword(b: &[u8], at: u32) -> u32 {
         + 16777216 * wide(byte(b, i + 3))
 }
 
-pub fn put_dword(b: &mut [u8], at: u32, x: u32) {
+pub fn put_dword(b: &mut [u8], at: u32, x: u32)
+    ensures { λ r. ⌜ now (b .exit) ≡ withDword (now (b .entry)) at x ⌝ }
+{
     let i = at as usize;
     put_byte(b, i, (x % 256) as u8);
     put_byte(b, i + 1, (x / 256 % 256) as u8);
@@ -63,7 +68,9 @@ pub fn put_dword(b: &mut [u8], at: u32, x: u32) {
 }
 
 // n bytes of one slice, from place a on, to place b on of another.
-pub fn copy(from: &[u8], a: u32, to: &mut [u8], b: u32, n: u32) {
+pub fn copy(from: &[u8], a: u32, to: &mut [u8], b: u32, n: u32)
+    ensures { λ r. ⌜ now (to .exit) ≡ copied (now (from .entry)) a (now (to .entry)) b n ⌝ }
+{
     let mut k: u32 = 0;
     while k < n {
         let x = byte(from, a as usize + k as usize);

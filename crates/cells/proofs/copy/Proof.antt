@@ -1,19 +1,20 @@
--- `cells::copy` is safe and ends. Assumes nothing.
-use mathlib.Core.Path.{_≡_}
-use Prim.Native.Nat.{_-_}
+use Rattle.cells.proofs.Copying.{copied-none, copied-on, copied-all}
+use Rattle.cells.specs.Cells.{copied}
 use lib.ListN.{length}
+use Prim.Native.Nat.{_-_, _≤_}
 use borrow.Author.Needs.{needs}
+use mathlib.Core.Path.{_≡_, refl, _∙_}
 use Rattle.cells.proofs.copy.Statement.{statement}
 use Rattle.cells.proofs.copy.Tie as tie
 
 abbrev Inv-loop : tie.InvT-loop
-Inv-loop from a to₀ b n k₀ to k = length to ≡ length to₀
+Inv-loop from a to₀ b n k₀ to k = (k ≤ n) × (length to ≡ length to₀) × (to ≡ copied from a to₀ b k)
 
 abbrev μ-loop : tie.MeasureT-loop
 μ-loop from a to₀ b n k₀ to k = n - k
 
 loop-holds : tie.Need-loop-holds Inv-loop μ-loop
-loop-holds c = search needs
+loop-holds c = (search needs, refl, copied-none _ _ _ _)
 
 cast-byte : tie.Need-cast-byte Inv-loop μ-loop
 cast-byte c = search needs
@@ -40,13 +41,13 @@ loop-less : tie.Need-loop-less Inv-loop μ-loop
 loop-less c = search needs
 
 loop-again : tie.Need-loop-again Inv-loop μ-loop
-loop-again c = search needs
+loop-again c = (search needs, (c .before .before .put-byte .kept .0) ∙ (c .before .before .before .before .before .before .loop .inv .1), copied-on _ ((c .before .before .before .before .before .before .before .before .before .args .a)) _ ((c .before .before .before .before .before .before .before .before .before .args .b)) _ ((c .before .before .before .before .before .before .loop .inv .2)) ((c .before .before .before .before .byte .ensures)) ((c .before .before .put-byte .ensures)))
 
 same-length : tie.Need-same-length Inv-loop μ-loop
-same-length c = search needs
+same-length c = (c .before .loop .inv .1)
 
 returns : tie.Need-returns Inv-loop μ-loop
-returns c = search needs
+returns c = copied-all _ ((c .before .before .before .before .args .a)) _ ((c .before .before .before .before .args .b)) _ _ ((c .before .loop .inv .2)) ((c .before .loop .inv .0)) ((c .loop-test .left))
 
 pub copy-spec : {M : Type 1} → statement M
 copy-spec =
