@@ -1,8 +1,8 @@
 // What is asked of the machine: a step, a run or an audit, on which record and how much memory.
-use crate::reading::dword;
 use crate::reading::number;
 use crate::reading::plus;
 use crate::reading::word;
+use cells::dword;
 use machine::Control;
 use machine::Cpu;
 use machine::Registers;

@@ -1,6 +1,6 @@
 // Numbers out of a case's bytes, the low byte first.
 ghost use mathlib.Core.Path.{_≡_};
-ghost use Prim.Native.Nat.{_+_, _%_, _<_};
+ghost use Prim.Native.Nat.{_+_, _*_, _%_, _<_};
 ghost use lib.ListN.{getD};
 
 pub fn plus(a: u32, b: u32) -> u32
@@ -29,11 +29,7 @@ pub fn number(b: &[u8], at: u32) -> u32
 }
 
 pub fn word(b: &[u8], at: u32) -> u32
-    ensures { λ r. ⌜ r < 65536 ⌝ }
+    ensures { λ r. ⌜ (r ≡ getD (now (b .entry)) at 0 + 256 * getD (now (b .entry)) ((at + 1) % 4294967296) 0) × (r < 65536) ⌝ }
 {
     number(b, at) + 256 * number(b, plus(at, 1))
-}
-
-pub fn dword(b: &[u8], at: u32) -> u32 {
-    word(b, at) + 65536 * word(b, plus(at, 2))
 }

@@ -1,10 +1,10 @@
 // What the machine answered, compared with what the case says: the reply, and the record.
 use crate::asking::Ask;
 use crate::asking::RUN;
-use crate::reading::dword;
 use crate::reading::number;
 use crate::reading::plus;
 use crate::reading::word;
+use cells::dword;
 use machine::Control;
 use machine::Cpu;
 use machine::Registers;
