@@ -90,11 +90,11 @@ all-none p n h = by (first p n) refl
     by none e = refl
     by (some i) e = let w : Lowest p n i = first-some p n i e in absurd (clash (p i) (w .passes) (h i (w .small)))
 
-some-of : (o : Option ℕ) → (o ≡ none → ⊥) → isSome o ≡ true
+pub some-of : (o : Option ℕ) → (o ≡ none → ⊥) → isSome o ≡ true
 some-of none h = absurd (h refl)
 some-of (some i) h = refl
 
-some-is : (o : Option ℕ) → isSome o ≡ true → (i : ℕ) × (o ≡ some i)
+pub some-is : (o : Option ℕ) → isSome o ≡ true → (i : ℕ) × (o ≡ some i)
 some-is none e = absurd (false≢true e)
 some-is (some i) e = (i, refl)
 

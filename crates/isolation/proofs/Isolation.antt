@@ -90,7 +90,7 @@ data Slots (m : Mem) (c : Control) : ℕ → ℕ → Type 0 where
   pair : (d t f : ℕ) (us rw′ : Bool) → d < 1024 → t < 1024 → entry m (dirFrame c) d ≡ Names us rw′ f
       → Slots m c (slot (dirFrame c) d) (slot f t)
 
-within-mapped : (n a : ℕ) (k : Page) (us rw′ : Bool) (f x y : ℕ) → within n a k ≡ Mapped us rw′ f x y → k ≡ Mapped us rw′ f x y
+pub within-mapped : (n a : ℕ) (k : Page) (us rw′ : Bool) (f x y : ℕ) → within n a k ≡ Mapped us rw′ f x y → k ≡ Mapped us rw′ f x y
 unfolding within
 within-mapped n a k us rw′ f x y e = by (ltb a n) e
   where
