@@ -16,7 +16,8 @@ use Rattle.arithmetic.specs.Arithmetic.{doAccumulate, doMultiply}
 use Rattle.execute.specs.Execute.{first, second, writesOperand, readsOperand, computeArithmetic, compute}
 use Rattle.shortcut.specs.Bytes.{Shows, operandAt, operandBytes}
 use Rattle.shortcut.specs.Forms.{isDirect, isOdd, upTo, doubleFast}
-use Rattle.shortcut.specs.Shortcut.{wantFirst, wantSecond, doubledAfter, FitsTo, coreFrom}
+use Rattle.outcome.specs.Outcome.{wantFirst, wantSecond, doubledAfter}
+use Rattle.shortcut.specs.Shortcut.{FitsTo, coreFrom}
 use Rattle.shortcut.proofs.Decoded.{number-none, with-modrm, operand-direct, operand-register}
 
 module _ (v : View) (m : Mem) (e : List ℕ) (s : Status) (eip i : ℕ) (int dir : Bool) where

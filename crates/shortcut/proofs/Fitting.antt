@@ -24,8 +24,9 @@ use Rattle.moves.specs.Moves.{doAddress}
 use Rattle.execute.specs.Execute.{permitted, writesOperand, readsOperand, first, second, computeArithmetic, computeMove, compute}
 use Rattle.shortcut.specs.Bytes.{operandAt}
 use Rattle.shifts.specs.Shifts.{shift}
-use Rattle.shortcut.specs.Forms.{file, isDirect, isOdd, spotOf, leftFast, numberAt, timesFast, fromFast, addressFast, upTo}
-use Rattle.shortcut.specs.Shortcut.{wantFirst, wantSecond, outOf, resultOf, stacked, depositOf, coreAfter, Fits, coreFrom}
+use Rattle.outcome.specs.Outcome.{file, wantFirst, wantSecond, outOf, resultOf, stacked, depositOf, coreAfter}
+use Rattle.shortcut.specs.Forms.{isDirect, isOdd, spotOf, leftFast, numberAt, timesFast, fromFast, addressFast, upTo}
+use Rattle.shortcut.specs.Shortcut.{Fits, coreFrom}
 use Rattle.shortcut.proofs.Decoded.{operand-direct, operand-register}
 
 pub below-eight : (x : ℕ) → ltb (x % 8) 8 ≡ true

@@ -6,4 +6,3 @@ pub mod Singles
 mod Doubling
 pub mod Taken
 pub mod Conditions
-pub mod Effects

@@ -21,8 +21,9 @@ use Rattle.arithmetic.specs.Arithmetic.{combined, doCombineImmediate, doUnary}
 use Rattle.stack.specs.Stack.{doPush, doPushNumber, doPop, doCall, doReturn}
 use Rattle.flow.specs.Flow.{doJumpOn, doJump}
 use Rattle.execute.specs.Execute.{writesOperand, readsOperand, first, second, computeArithmetic, computeMove, computeFlow, compute}
-use Rattle.shortcut.specs.Forms.{file, numberAt, registerFast, countFast, jumpFast, pushFast, popFast}
-use Rattle.shortcut.specs.Shortcut.{wantFirst, wantSecond, outOf, resultOf, stacked, depositOf, coreAfter, Fits, coreFrom}
+use Rattle.outcome.specs.Outcome.{file, wantFirst, wantSecond, outOf, resultOf, stacked, depositOf, coreAfter}
+use Rattle.shortcut.specs.Forms.{numberAt, registerFast, countFast, jumpFast, pushFast, popFast}
+use Rattle.shortcut.specs.Shortcut.{Fits, coreFrom}
 use Rattle.shortcut.proofs.Fitting.{below-eight}
 
 same : (x : ℕ) → x < 4294967296 → x % 4294967296 ≡ x

@@ -12,7 +12,8 @@ use Rattle.machine.specs.Paging.{dwordAt}
 use Rattle.decode.specs.Decode.{inMemory, displacementBytes, scaleOf, indexOf}
 use Rattle.operands.specs.Operands.{address}
 use Rattle.shortcut.specs.Bytes.{displacementAt, isBare, sibAt, sibBytes, operandAt, operandBytes}
-use Rattle.shortcut.specs.Forms.{file, spotOf, upTo}
+use Rattle.outcome.specs.Outcome.{file}
+use Rattle.shortcut.specs.Forms.{spotOf, upTo}
 use Rattle.shortcut.proofs.Small.{operand-few}
 
 and-false : (x : Bool) → (x && false) ≡ false

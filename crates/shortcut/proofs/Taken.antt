@@ -20,9 +20,10 @@ use Rattle.decode.specs.Decode.{signed, number, decode}
 use Rattle.decode.specs.Read.{logAt}
 use Rattle.execute.specs.Execute.{first, second, writesOperand, computeArithmetic, compute}
 use Rattle.arithmetic.specs.Arithmetic.{doCombineTo, doCombineImmediate, doShift}
-use Rattle.shortcut.specs.declared.Fast.{Fast}
+use Rattle.outcome.specs.declared.Fast.{Fast}
 use Rattle.shortcut.specs.Bytes.{Shows, operandAt}
-use Rattle.shortcut.specs.Forms.{file, isDirect, isOdd, upTo, numberAt, operationOf, placesAt, placesFast, timesFast, doubleFast, leftFast, toFast, fromFast, numberFast, addressFast, registerFast, loadFast, accumulatorFast, countFast, jumpFast, pushFast, popFast}
+use Rattle.outcome.specs.Outcome.{file}
+use Rattle.shortcut.specs.Forms.{isDirect, isOdd, upTo, numberAt, operationOf, placesAt, placesFast, timesFast, doubleFast, leftFast, toFast, fromFast, numberFast, addressFast, registerFast, loadFast, accumulatorFast, countFast, jumpFast, pushFast, popFast}
 use Rattle.shortcut.specs.Shortcut.{Fits, coreFrom, Idle, FastOk}
 use Rattle.shortcut.proofs.Small.{operand-few}
 use Rattle.shortcut.proofs.Decoded.{number-none, number-one, number-four, number-long, own, with-modrm, without-modrm}

@@ -5,16 +5,13 @@ use mathlib.Core.Bool.{Bool, true, false, cond}
 use mathlib.Core.List.{List}
 use lib.Dec.{leb, eqb}
 use Rattle.alu.specs.Arithmetic.{writes}
-use Rattle.machine.specs.declared.Registers.{Registers}
 use Rattle.machine.specs.Record.{Mem, at, wrap, register, readAt}
 use Rattle.machine.specs.Paging.{dwordAt}
 use Rattle.decode.specs.Decode.{signed}
 use Rattle.operands.specs.Operands.{address, lowered}
-use Rattle.shortcut.specs.declared.Fast.{Fast}
+use Rattle.outcome.specs.declared.Fast.{Fast}
+use Rattle.outcome.specs.Outcome.{file}
 use Rattle.shortcut.specs.Bytes.{operandAt, operandBytes}
-
-abbrev pub file : List ℕ → Registers
-file e = record { e = e }
 
 abbrev pub isDirect : ℕ → Bool
 isDirect m = leb 192 m

@@ -1,15 +1,14 @@
-// Reading registers, and an instruction's bytes where all of them are there.
+// Reading an instruction's bytes where all of them are there.
 ghost use mathlib.Core.Path.{_≡_};
-ghost use mathlib.Core.Bool.{Bool, true, false, cond};
-ghost use Prim.Native.Nat.{ℕ, _+_, _*_, _/_, _%_, _<_, _≤_, _^_};
-ghost use lib.ListN.{length, getD};
-ghost use lib.Dec.{leb, eqb};
-ghost use Rattle.machine.specs.Record.{at, readAt, byteRegister};
+ghost use Prim.Native.Nat.{_+_, _<_, _≤_};
+ghost use lib.ListN.{length};
+ghost use Rattle.machine.specs.Record.{at};
 ghost use Rattle.machine.specs.Paging.{dwordAt};
 ghost use Rattle.decode.specs.Decode.{inMemory, indexOf, scaleOf};
 ghost use Rattle.operands.specs.Operands.{scaled, address};
+ghost use Rattle.outcome.specs.Outcome.{file};
 ghost use Rattle.shortcut.specs.Bytes.{sibAt, sibBytes, operandAt, operandBytes};
-ghost use Rattle.shortcut.specs.Forms.{file, numberAt, spotOf, upTo};
+ghost use Rattle.shortcut.specs.Forms.{numberAt, spotOf, upTo};
 
 // Where a memory operand lies, 0 for a register; and how many bytes the instruction has up to its immediate.
 pub struct Spot {
@@ -48,31 +47,6 @@ pub fn number(mem: &[u8], j: usize, long: bool) -> u32
     decode::extend(byte(mem, j))
 }
 
-// A register; a number above is none, and 0.
-pub fn register(e: &[u32], n: u32) -> u32
-    ensures { λ r. ⌜ r ≡ getD (now (e .entry)) n 0 ⌝ }
-{
-    let i = n as usize;
-    if i < e.len() {
-        return e[i];
-    }
-    0
-}
-
-// A dword register or a byte's.
-pub fn read(e: &[u32], w: bool, n: u32) -> u32
-    ensures { λ r. ⌜ r ≡ readAt w (file (now (e .entry))) n ⌝ }
-{
-    if w {
-        return register(e, n);
-    }
-    let x = register(e, n % 4);
-    if n / 4 % 2 == 1 {
-        return x / 256 % 256;
-    }
-    x % 256
-}
-
 fn times(x: u32, s: u32) -> u64
     ensures { λ r. ⌜ (r ≡ scaled x s) × (r ≤ 34359738360) ⌝ }
 {
@@ -92,8 +66,8 @@ fn times(x: u32, s: u32) -> u64
 fn place(e: &[u32], base: u32, index: u32, scale: u32, x: u32) -> u32
     ensures { λ r. ⌜ r ≡ address (file (now (e .entry))) (inMemory base index scale x) ⌝ }
 {
-    let b = register(e, base);
-    let i = register(e, index);
+    let b = outcome::register(e, base);
+    let i = outcome::register(e, index);
     ((b as u64 + times(i, scale) + x as u64) % 4294967296) as u32
 }
 

@@ -25,8 +25,8 @@ use Rattle.paging.specs.Quiet.{Quiet, SettledOk, Agree, KeptOk, pageIn, HeldOk}
 use Rattle.access.specs.declared.Access.{Access}
 use Rattle.access.specs.Located.{asked, trailMarks, placed, puts, nowhere, Held}
 use Rattle.access.proofs.Laws.{nothing-held, near-held, byte-held}
-use Rattle.shortcut.specs.declared.Fast.{Fast}
-use Rattle.shortcut.specs.Shortcut.{asks, wantFirst, wantSecond, stores, leftOf, rightOf}
+use Rattle.outcome.specs.declared.Fast.{Fast}
+use Rattle.outcome.specs.Outcome.{asks, wantFirst, wantSecond, stores, leftOf, rightOf}
 use Rattle.swift.specs.declared.Sought.{Sought}
 use Rattle.phases.specs.Planned.{accessMarks}
 use Rattle.swift.specs.Swift.{spotted, saved, Holds, Reaches, Spared, PagesOk}

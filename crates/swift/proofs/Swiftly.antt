@@ -31,10 +31,10 @@ use Rattle.access.specs.Located.{trailMarks, placed, puts}
 use Rattle.access.proofs.Laws.{trail-one}
 use Rattle.decode.proofs.Cap.{fetched-within}
 use Rattle.execute.specs.Execute.{compute}
-use Rattle.shortcut.specs.declared.Fast.{Fast}
+use Rattle.outcome.specs.declared.Fast.{Fast}
 use Rattle.shortcut.specs.Bytes.{Shows}
-use Rattle.shortcut.specs.Forms.{file}
-use Rattle.shortcut.specs.Shortcut.{asks, stores, leftOf, rightOf, outOf, resultOf, stacked, depositOf, registersAfter, nextOf, coreAfter, doubledIn, doubledOf, doubledAfter, FitsTo, coreFrom, Idle, FastOk}
+use Rattle.outcome.specs.Outcome.{file, asks, stores, leftOf, rightOf, outOf, resultOf, stacked, depositOf, registersAfter, nextOf, coreAfter, doubledIn, doubledOf, doubledAfter}
+use Rattle.shortcut.specs.Shortcut.{FitsTo, coreFrom, Idle, FastOk}
 use Rattle.phases.specs.declared.Planned.{Planned}
 use Rattle.swift.specs.declared.Rest.{Rest}
 use Rattle.swift.specs.declared.Sought.{Sought}

@@ -19,8 +19,9 @@ use Rattle.access.specs.declared.Access.{Access}
 use Rattle.access.specs.declared.Place.{Place}
 use Rattle.access.specs.declared.Place.the-variants.{Byte, Near}
 use Rattle.access.specs.Located.{Held, placed, puts}
-use Rattle.shortcut.specs.declared.Fast.{Fast}
-use Rattle.shortcut.specs.Shortcut.{asks, wantFirst, wantSecond, stores, leftOf, rightOf, coreFrom}
+use Rattle.outcome.specs.declared.Fast.{Fast}
+use Rattle.outcome.specs.Outcome.{asks, wantFirst, wantSecond, stores, leftOf, rightOf}
+use Rattle.shortcut.specs.Shortcut.{coreFrom}
 use Rattle.swift.specs.declared.Rest.{Rest}
 use Rattle.swift.specs.declared.Swift.{Swift}
 use Rattle.swift.specs.declared.Sought.{Sought}

@@ -12,7 +12,7 @@ ghost use Rattle.machine.specs.Commit.{patches};
 ghost use Rattle.encoding.specs.Encodings.{Classed};
 ghost use Rattle.paging.specs.Quiet.{HeldOk};
 ghost use Rattle.access.specs.Located.{placed};
-ghost use Rattle.shortcut.specs.Shortcut.{nextOf};
+ghost use Rattle.outcome.specs.Outcome.{nextOf};
 ghost use Rattle.swift.specs.Swift.{saved, spotted, Holds, Reaches, Spared, PagesOk, current, SwiftOk, RushOk, DashOk};
 use alu::Status;
 use alu::brief::Brief;
@@ -21,10 +21,10 @@ use machine::Core;
 use machine::Cpu;
 use machine::Flags;
 use machine::Registers;
+use outcome::Fast;
 use paging::Physical;
 use paging::quiet::Kept;
 use paging::quiet::Settled;
-use shortcut::Fast;
 
 // EIP and the status flags.
 struct Rest {
@@ -240,7 +240,7 @@ fn hop(
     let p = shortcut::quick(mem, t, e, f, eip, h.base as usize + (eip % 4096) as usize);
     if !p.taken {
         if p.doubling {
-            let g = shortcut::effect::double(e, p, f);
+            let g = outcome::double(e, p, f);
             return moved(p.next, g, true);
         }
         return unmoved(r);
@@ -252,14 +252,14 @@ fn hop(
     if !q.found {
         return unmoved(r);
     }
-    let o = shortcut::effect::result(p, q.x, q.y, f);
+    let o = outcome::result(p, q.x, q.y, f);
     let g = o.flags;
     if p.access < 3 {
-        shortcut::effect::deposit(e, p, o.value);
+        outcome::deposit(e, p, o.value);
         return moved(p.next, g, true);
     }
-    shortcut::effect::restack(e, p);
-    shortcut::effect::deposit(e, p, o.value);
+    outcome::restack(e, p);
+    outcome::deposit(e, p, o.value);
     let holds = save(mem, c, h.table, p, q.at, o.value);
     moved(next(p, q.value), g, holds)
 }

@@ -1,5 +1,5 @@
 use Rattle.alu.specs.Brief.{statusIn}
-use Rattle.shortcut.specs.Shortcut.{depositOf}
+use Rattle.outcome.specs.Outcome.{depositOf}
 use Rattle.swift.proofs.Seeking.{pages-move-on}
 use Rattle.swift.proofs.Swiftly.{of-operands, unmoved, hopped, few-hopped, jumped, double-hopped, room-for}
 use borrow.Author.Needs.{needs}

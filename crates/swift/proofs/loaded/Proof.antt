@@ -1,4 +1,4 @@
-use Rattle.shortcut.specs.Shortcut.{leftOf, rightOf}
+use Rattle.outcome.specs.Outcome.{leftOf, rightOf}
 use Rattle.swift.proofs.Seeking.{pushed, read}
 use borrow.Author.Needs.{needs}
 use mathlib.Core.Path.{refl, ap, _∙_}
