@@ -11,6 +11,7 @@ import sys
 
 TOP = os.path.join(os.path.dirname(os.path.abspath(__file__)), "../..")
 A, B, S, P, G, X, E, D, M, R, U = "alu", "alu/brief", "shifts", "products", "paging", "access", "encoding", "decode", "machine", "micro32", "audit"
+Q, H, O, F, W = "paging/quiet", "paging/held", "outcome", "shortcut/bytes", "swift"  # the quick way's
 # where it stands, the wrong rule in words, the text of the rule, the wrong text
 RULES = [
     (B, "SBB's borrow is folded into the subtrahend", "let s = b as u64 + k as u64;", "let s = (b as u64 + k as u64) % 0x1_0000_0000;"),
@@ -86,6 +87,20 @@ RULES = [
     (U, "a page is exposed without R/W in its directory entry", "if e % 8 != 7 {", "if (e % 8 != 7) & (e % 8 != 5) {"),
     (U, "the audit says Safe where PG is clear", "    tables(mem, c.control)\n", "    let k = c.control;\n    if k.cr0 < 0x8000_0000 {\n        return Reply::Safe;\n    }\n    tables(mem, k)\n"),
     (U, "the audit does not check the record", "if !machine::sound(mem.len(), c) {", "if mem.len() < 4096 {"),
+    (Q, "quick: a supervisor's page is read by the user", "return passes(true, false, false, e.pde) & passes(true, false, false, e.pte);", "return passes(true, false, false, e.pde) & passes(false, false, false, e.pte);"),
+    (Q, "quick: a read-only page is written by the user", "passes(true, true, true, e.pte)", "passes(true, false, true, e.pte)"),
+    (Q, "quick: a clean page is written", "passes(true, true, true, e.pte)", "passes(true, true, false, e.pte)"),
+    (H, "quick: a page of another table is kept", "if p.table != table {", "if p.table == 0xffff_ffff {"),
+    (H, "quick: a page that is kept for reading is written", "        return 16 + k as usize;", "        return k as usize;"),
+    (W, "quick: pages are kept after a store into their table", "(first == table) | (last == table) | ", ""),
+    (W, "quick: pages are kept after a store into the directory", " | (first == dir) | (last == dir)", ""),
+    (W, "quick: pages of data are kept where code of another table goes on", "if holds & (k.table == table) {", "if holds {"),
+    (W, "quick: a dword over a page's end is taken as one page's", "4092 < p.at % 4096", "4094 < p.at % 4096"),
+    (O, "quick: SBB of dwords without the borrow", "3 => alu::brief::sub32(x, y, f.cf),", "3 => alu::brief::sub32(x, y, false),"),
+    (O, "quick: INC of a dword changes CF", "10 => alu::brief::keep_carry(f, alu::brief::add32(x, 1, false)),", "10 => alu::brief::add32(x, 1, false),"),
+    (O, "quick: a pop leaves ESP", "if (p.access == 5) | (p.access == 6) {", "if p.access == 6 {"),
+    (O, "quick: AH to BH write the low byte", "    if n / 4 % 2 == 1 {\n        return old", "    if n / 4 % 2 == 2 {\n        return old"),
+    (F, "quick: an 8-bit displacement is past the dword's end", "upto: 4,", "upto: 7,"),
 ]
 
 

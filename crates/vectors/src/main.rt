@@ -85,18 +85,24 @@ fn clean(asked: bool, mem: &mut Memory) -> bool {
     true
 }
 
+// A generated case, by a step and by a run of one.
+fn agrees_twice(b: &[u8], mem: &mut Memory, want: &mut Memory) -> bool {
+    let stepped = agrees(b, asking::generated(b, asking::STEP), mem, want);
+    let ran = agrees(b, asking::generated(b, asking::LONE), mem, want);
+    stepped & ran
+}
+
 // Compares a case. After a directed one, and after every 64th of the others, all memory must be clear again; a byte that is not counts
 // against that case.
 fn judged(directed: bool, turns: u32, k: Case, mem: &mut Memory, want: &mut Memory) -> bool {
     let asks = k.asks;
     let b = k.bytes;
-    let a = if directed {
-        asking::directed(&asks)
-    } else {
-        asking::generated(&b)
-    };
-    let same = agrees(&b, a, mem, want);
-    clean(directed | (turns % 64 == 63), mem) & same
+    if directed {
+        let same = agrees(&b, asking::directed(&asks), mem, want);
+        return clean(true, mem) & same;
+    }
+    let same = agrees_twice(&b, mem, want);
+    clean(turns % 64 == 63, mem) & same
 }
 
 // The count with one case more.
