@@ -1,5 +1,5 @@
 /* Bochs as an engine: a PC of its own, in a process of its own, that boots bench/bochs/boot.s and runs the guest in ring 3 with paging.
- * Two runs are measured, one of the guest's length and one longer: the difference leaves out the PC's start. The working folder must have boot.img, as
+ * Two runs are measured, one of the guest's length and one longer: the difference of the best of each leaves out the PC's start. The working folder must have boot.img, as
  * bench/bochs/boot.s assembles, and bochsrc. */
 #include <stdio.h>
 #include <stdlib.h>
@@ -70,12 +70,11 @@ static double one_run(const struct job *job, uint32_t ebp, uint32_t passes, stru
     return children() - before;
 }
 
-static double measured(struct job *job, struct registers *end) {
+static double measured(struct job *job, struct registers *end, double *brief) {
     int many = job->passes > 1;
     struct registers other;
-    double brief = one_run(job, job->ebp, job->passes, end);
-    double whole = one_run(job, many ? job->ebp : job->ebp * LONGER, many ? job->passes * LONGER : 1, &other);
-    return (whole - brief) / (LONGER - 1);
+    *brief = one_run(job, job->ebp, job->passes, end);
+    return one_run(job, many ? job->ebp : job->ebp * LONGER, many ? job->passes * LONGER : 1, &other);
 }
 
-const struct engine bochs = {.name = "Bochs, ring 3, paged", .pages = 1, .measured = measured};
+const struct engine bochs = {.name = "Bochs, ring 3, paged", .pages = 1, .measured = measured, .longer = LONGER};

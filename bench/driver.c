@@ -24,7 +24,7 @@ static const struct engine *const ENGINES[] = {
 #define MAX_REPEATS 7
 
 static int engines = MOST - 1;  /* one more where Bochs is asked for */
-static double seconds[JOBS][MOST][MAX_REPEATS];
+static double seconds[JOBS][MOST][MAX_REPEATS], briefs[JOBS][MAX_REPEATS];  /* a brief time where an engine has one: Bochs */
 
 void give_up(const char *format, ...) {
     va_list values;
@@ -36,9 +36,9 @@ void give_up(const char *format, ...) {
 }
 
 /* One measurement. The registers of the last pass are left in *end, the instructions of a pass in job where the engine is ours. */
-static double measure(struct job *job, const struct engine *engine, struct registers *end) {
+static double measure(struct job *job, const struct engine *engine, struct registers *end, double *brief) {
     if (engine->measured)
-        return engine->measured(job, end);
+        return engine->measured(job, end, brief);
     double total = 0;
     for (int pass = 0; pass < job->passes; pass++) {
         double before = now();
@@ -76,14 +76,14 @@ static void compare(const struct job *job, const struct engine *engine, const st
         give_up("%s: %s leaves other data", job->name, engine->name);
 }
 
-static void one_turn(struct job *job, int turn, double times[MOST][MAX_REPEATS]) {
+static void one_turn(struct job *job, int turn, double times[MOST][MAX_REPEATS], double *brief) {
     uint8_t *linear = new_memory(job->linear_length), *paged = new_memory(job->paged_length);
     memcpy(linear, job->linear, job->linear_length);
     memcpy(paged, job->paged, job->paged_length);
     expected_data = new_memory(job->data_length);
     for (int e = 0; e < engines; e++) {
         struct registers end;
-        times[e][turn] = measure(job, ENGINES[e], &end);
+        times[e][turn] = measure(job, ENGINES[e], &end, brief);
         compare(job, ENGINES[e], &end);
         memcpy(job->linear, linear, job->linear_length);
         memcpy(job->paged, paged, job->paged_length);
@@ -107,7 +107,13 @@ static double worst(const double *times, int repeats) {
     return most;
 }
 
-static void print_guest(const struct job *job, double times[MOST][MAX_REPEATS], int repeats) {
+/* What a job takes at best. The best of the longer runs less the best of the brief ones: the noise of a single pair may be more than their difference. */
+static double taken(const struct engine *engine, const double *times, const double *brief, int repeats) {
+    double least = best(times, repeats);
+    return engine->measured ? (least - best(brief, repeats)) / (engine->longer - 1) : least;
+}
+
+static void print_guest(const struct job *job, double times[MOST][MAX_REPEATS], const double *brief, int repeats) {
     double instructions = (double)job->instructions * job->passes;
     double ours = best(times[OURS], repeats);
     printf("%s: %.1f million instructions", job->name, instructions * 1e-6);
@@ -115,9 +121,9 @@ static void print_guest(const struct job *job, double times[MOST][MAX_REPEATS], 
         printf(" in %d passes, an engine made anew for each (Bochs: one for all)", job->passes);
     printf("\n");
     for (int e = 0; e < engines; e++) {
-        double least = best(times[e], repeats);
+        double least = taken(ENGINES[e], times[e], brief, repeats);
         printf("  %-22s %9.2f million a second, spread %5.1f %%, %7.2f times ours in ring 3\n", ENGINES[e]->name, instructions / least * 1e-6,
-               (worst(times[e], repeats) / least - 1) * 100, ours / least);
+               (worst(times[e], repeats) / best(times[e], repeats) - 1) * 100, ours / least);
     }
 }
 
@@ -139,10 +145,10 @@ int main(int count, char **words) {
     }
     for (int turn = 0; turn < repeats; turn++)
         for (int j = 0; j < JOBS; j++)
-            one_turn(&jobs[j], turn, seconds[j]);
+            one_turn(&jobs[j], turn, seconds[j], &briefs[j][turn]);
     printf("Best of %d repeats in turn, by processor time; the spread is from the best to the worst.\n", repeats);
     for (int j = 0; j < JOBS; j++)
-        print_guest(&jobs[j], seconds[j], repeats);
+        print_guest(&jobs[j], seconds[j], briefs[j], repeats);
     printf("All engines left the same registers and flags, and the same data (Bochs's memory isn't seen).\n");
     return 0;
 }
