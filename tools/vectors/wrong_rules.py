@@ -10,7 +10,7 @@ import subprocess
 import sys
 
 TOP = os.path.join(os.path.dirname(os.path.abspath(__file__)), "../..")
-A, B, S, P, G, X, E, D, M, R, U = "alu", "alu/brief", "shifts", "products", "paging", "access", "encoding", "decode", "machine", "micro32", "audit"
+A, B, S, P, G, X, E, N, D, M, R, U = "alu", "alu/brief", "shifts", "products", "paging", "access", "encoding", "fetch", "decode", "machine", "micro32", "audit"
 Q, H, O, F, W = "paging/quiet", "paging/held", "outcome", "shortcut/bytes", "swift"  # the quick way's
 # where it stands, the wrong rule in words, the text of the rule, the wrong text
 RULES = [
@@ -54,10 +54,10 @@ RULES = [
     (X, "D marked in the directory", "touch(mem, d, false);", "touch(mem, d, w);"),
     (X, "D not marked by a write", "mark_page(mem, j, w);", "mark_page(mem, j, false);"),
     (X, "a dword over a page's end taken as one page's", "if l % 4096 <= 4092 {", "if l % 4096 <= 4093 {"),
-    (D, "sixteen bytes are allowed", "if 15 <= n {", "if 16 <= n {"),
+    (N, "sixteen bytes are allowed", "if 15 <= n {", "if 16 <= n {"),
     (D, "SIB index 5 means none", "if s / 8 % 8 == 4 {", "if s / 8 % 8 == 5 {"),
     (D, "SIB base 5 never means EBP", "if (b % 8 == 5) & (md == 0) {", "if b % 8 == 5 {"),
-    (D, "an 8-bit displacement without sign", "if x < 128 { x } else { x + 4294967040 }", "x"),
+    (N, "an 8-bit displacement without sign", "if x < 128 { x } else { x + 4294967040 }", "x"),
     (M, "AH to BH write the low byte", "if n / 4 % 2 == 1 {\n        return old", "if n / 4 % 2 == 2 {\n        return old"),
     (M, "EFLAGS bit 3 is allowed", "(e / 8 % 2 == 0)", "true"),
     (E, "LEA of a register is built", "((c == LOAD_ADDRESS) & (192 <= m))", "false"),

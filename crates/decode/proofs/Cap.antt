@@ -15,10 +15,12 @@ use Rattle.encoding.specs.declared.Instruction.{Instruction}
 use Rattle.encoding.specs.declared.Operand.{Operand}
 use Rattle.encoding.specs.Encodings.{classOf, notBuilt, override, escape, undefined}
 use Rattle.encoding.specs.Attributes.{regField, hasModrm, hasOffset, undefinedForm, unbuiltForm, immediateBytes, impliedRegister}
+use Rattle.fetch.specs.Fetch.{fetchSigned, fetchWord, fetchDword, number}
+use Rattle.fetch.specs.Read.{logAt}
 use Rattle.decode.specs.declared.Decoded.{Decoded}
 use Rattle.decode.specs.declared.Decoded.the-variants.{Ready}
-use Rattle.decode.specs.Decode.{fetchSigned, fetchWord, fetchDword, number, prefixed, escaped, opcode, inRegister, inMemory, displacementBytes, afterSib, afterModrm, judged, finish, withModrm, withOffset, classed, decode}
-use Rattle.decode.specs.Read.{logAt, readyOf}
+use Rattle.decode.specs.Decode.{prefixed, escaped, opcode, inRegister, inMemory, displacementBytes, afterSib, afterModrm, judged, finish, withModrm, withOffset, classed, decode}
+use Rattle.decode.specs.Read.{readyOf}
 
 -- ---- acts that fetch at least k bytes, and never more than fifteen in all
 

@@ -1,6 +1,6 @@
--- Fetch and decode, byte after byte from EIP (document 01, "Order within one step", 2, and "Encodings built").
+-- Decode, byte after byte from EIP (document 01, "Order within one step", 2, and "Encodings built").
 -- Assumes nothing.
-use Prim.Native.Nat.{ℕ, zero, suc, _+_, _*_, _/_, _%_}
+use Prim.Native.Nat.{ℕ, zero, suc, _+_, _/_, _%_}
 use mathlib.Core.Bool.{true, false, cond, _&&_}
 use lib.Dec.{ltb, leb, eqb}
 use Rattle.machine.specs.declared.Reply.the-variants.{Fault, NotBuilt}
@@ -9,35 +9,7 @@ use Rattle.encoding.specs.declared.Operand.{Operand}
 use Rattle.encoding.specs.declared.Instruction.{Instruction}
 use Rattle.encoding.specs.Encodings.{classOf, notBuilt, override, escape, undefined}
 use Rattle.encoding.specs.Attributes.{regField, hasModrm, hasOffset, undefinedForm, unbuiltForm, isWide, immediateBytes, immediateOf, impliedRegister, familyOf, operationOf}
-
--- ---- numbers in the instruction
-
--- a byte with its sign, as a dword
-abbrev pub signed : ℕ → ℕ
-signed x = cond (ltb x 128) x (x + 4294967040)
-
-unfoldable pub fetchSigned : ℕ → Act ℕ
-fetchSigned eip = do
-  x ← fetch eip
-  return (signed x)
-
-unfoldable pub fetchWord : ℕ → Act ℕ
-fetchWord eip = do
-  a ← fetch eip
-  b ← fetch eip
-  return (a + 256 * b)
-
-unfoldable pub fetchDword : ℕ → Act ℕ
-fetchDword eip = do
-  a ← fetch eip
-  b ← fetch eip
-  c ← fetch eip
-  d ← fetch eip
-  return (a + 256 * b + 65536 * c + 16777216 * d)
-
--- a number of so many bytes: 1 with its sign, 2 without, 4; or none, and 0
-unfoldable pub number : ℕ → ℕ → Act ℕ
-number eip n = cond (eqb n 1) (fetchSigned eip) (cond (eqb n 2) (fetchWord eip) (cond (eqb n 4) (fetchDword eip) (return 0)))
+use Rattle.fetch.specs.Fetch.{number}
 
 -- ---- the opcode
 

@@ -7,7 +7,8 @@ use Rattle.shifts.specs.Shifts.{times, shiftStatus, shifted, shift}
 use Rattle.products.specs.Products.{quotient}
 use Rattle.encoding.specs.Encodings.{classOf}
 use Rattle.encoding.specs.Attributes.{familyOf, operationOf}
-use Rattle.decode.specs.Decode.{fetchSigned, fetchDword, number, prefixed, opcode, afterSib, afterModrm, judged, finish, withModrm, classed, decode}
+use Rattle.fetch.specs.Fetch.{fetchSigned, fetchDword, number}
+use Rattle.decode.specs.Decode.{prefixed, opcode, afterSib, afterModrm, judged, finish, withModrm, classed, decode}
 use Rattle.machine.specs.Replies.{numbered}
 use Rattle.machine.specs.Paging.{entryOf, within, leaf, under, pageAt, ask, rights, reach, translate, view}
 use Rattle.machine.specs.Commit.{patch, patches, marksOf, ifAt, marks, touched, written, commit}

@@ -21,10 +21,11 @@ use Rattle.access.specs.declared.Located.the-variants.{Here, No}
 use Rattle.access.specs.Located.{span, touchesOf, puts, Held, LocatedOk}
 use Rattle.access.proofs.Marks.{patches-append, touched-append}
 use Rattle.encoding.specs.declared.Instruction.{Instruction}
+use Rattle.fetch.specs.Read.{logAt}
 use Rattle.decode.specs.Decode.{decode}
 use Rattle.decode.specs.declared.Decoded.{Decoded}
 use Rattle.decode.specs.declared.Decoded.the-variants.{Ready, Unready}
-use Rattle.decode.specs.Read.{logAt, readyOf}
+use Rattle.decode.specs.Read.{readyOf}
 use Rattle.decode.proofs.Cap.{fetched-within}
 use native.Mathlib.Omega.{arith}
 use Rattle.operands.specs.declared.Effect.{Effect}

@@ -11,9 +11,10 @@ use Rattle.machine.specs.Paging.{View, dwordAt}
 use Rattle.machine.specs.Act.{ok, byte, counted, fetch}
 use Rattle.encoding.specs.Encodings.{classOf, notBuilt, override, escape, undefined}
 use Rattle.encoding.specs.Attributes.{regField, hasModrm, hasOffset, undefinedForm, unbuiltForm, isWide, immediateBytes, immediateOf, impliedRegister, familyOf, operationOf}
-use Rattle.decode.specs.Decode.{signed, fetchSigned, fetchDword, number, prefixed, opcode, inRegister, inMemory, displacementBytes, scaleOf, indexOf, afterSib, afterModrm, judged, finish, withModrm, classed, decode}
-use Rattle.decode.specs.Read.{logAt}
-use Rattle.decode.proofs.Laws.{span-more}
+use Rattle.fetch.specs.Fetch.{signed, fetchSigned, fetchDword, number}
+use Rattle.fetch.specs.Read.{logAt}
+use Rattle.fetch.proofs.Laws.{span-more}
+use Rattle.decode.specs.Decode.{prefixed, opcode, inRegister, inMemory, displacementBytes, scaleOf, indexOf, afterSib, afterModrm, judged, finish, withModrm, classed, decode}
 use Rattle.shortcut.specs.Bytes.{Shows, displacementAt, isBare, sibAt, sibBytes, operandAt, operandBytes}
 use Rattle.shortcut.specs.Forms.{upTo}
 

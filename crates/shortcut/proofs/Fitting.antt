@@ -16,8 +16,8 @@ use Rattle.machine.specs.Paging.{View}
 use Rattle.machine.specs.Act.{ok}
 use Rattle.encoding.specs.declared.Instruction.{Instruction}
 use Rattle.encoding.specs.Attributes.{regField}
+use Rattle.fetch.specs.Read.{logAt}
 use Rattle.decode.specs.Decode.{decode}
-use Rattle.decode.specs.Read.{logAt}
 use Rattle.operands.specs.Operands.{scaled, address, operandWant, operandValue, deposit}
 use Rattle.arithmetic.specs.Arithmetic.{combined, combinedFrom, doCombineFrom, deposited, doMultiplyBy}
 use Rattle.moves.specs.Moves.{doAddress}

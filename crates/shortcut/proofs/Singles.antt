@@ -14,8 +14,8 @@ use Rattle.machine.specs.Record.{Mem, at, wrap, register, readAt, writeAt}
 use Rattle.machine.specs.Paging.{View}
 use Rattle.machine.specs.Act.{ok}
 use Rattle.encoding.specs.declared.Instruction.{Instruction}
+use Rattle.fetch.specs.Read.{logAt}
 use Rattle.decode.specs.Decode.{decode, inRegister}
-use Rattle.decode.specs.Read.{logAt}
 use Rattle.operands.specs.Operands.{operandWant, operandValue, deposit}
 use Rattle.arithmetic.specs.Arithmetic.{combined, doCombineImmediate, doUnary}
 use Rattle.stack.specs.Stack.{doPush, doPushNumber, doPop, doCall, doReturn}

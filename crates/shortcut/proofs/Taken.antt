@@ -16,8 +16,9 @@ use Rattle.encoding.specs.declared.Instruction.{Instruction}
 use Rattle.encoding.specs.Encodings.{classOf}
 use Rattle.encoding.specs.Attributes.{regField, hasModrm, undefinedForm, unbuiltForm, isWide, immediateBytes, immediateOf, familyOf, operationOf as operationIn, arithmeticFamily, moveFamily, flowFamily, longOpcode}
 use Rattle.machine.specs.Act.{ok}
-use Rattle.decode.specs.Decode.{signed, number, decode}
-use Rattle.decode.specs.Read.{logAt}
+use Rattle.fetch.specs.Fetch.{signed, number}
+use Rattle.fetch.specs.Read.{logAt}
+use Rattle.decode.specs.Decode.{decode}
 use Rattle.execute.specs.Execute.{first, second, writesOperand, computeArithmetic, compute}
 use Rattle.arithmetic.specs.Arithmetic.{doCombineTo, doCombineImmediate, doShift}
 use Rattle.outcome.specs.declared.Fast.{Fast}

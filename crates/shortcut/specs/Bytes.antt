@@ -8,7 +8,8 @@ use lib.Dec.{leb, eqb}
 use Rattle.machine.specs.Record.{Mem, at, wrap}
 use Rattle.machine.specs.Paging.{View, Byte, dwordAt}
 use Rattle.encoding.specs.declared.Operand.{Operand}
-use Rattle.decode.specs.Decode.{signed, inRegister, inMemory, displacementBytes, scaleOf, indexOf}
+use Rattle.fetch.specs.Fetch.{signed}
+use Rattle.decode.specs.Decode.{inRegister, inMemory, displacementBytes, scaleOf, indexOf}
 
 -- from eip on the view shows the sixteen bytes at index i
 abbrev pub Shows : View → Mem → ℕ → ℕ → Type 0

@@ -7,7 +7,7 @@ use lib.Dec.{leb, eqb}
 use Rattle.alu.specs.Arithmetic.{writes}
 use Rattle.machine.specs.Record.{Mem, at, wrap, register, readAt}
 use Rattle.machine.specs.Paging.{dwordAt}
-use Rattle.decode.specs.Decode.{signed}
+use Rattle.fetch.specs.Fetch.{signed}
 use Rattle.operands.specs.Operands.{address, lowered}
 use Rattle.outcome.specs.declared.Fast.{Fast}
 use Rattle.outcome.specs.Outcome.{file}

@@ -11,8 +11,8 @@ use Rattle.machine.specs.Record.{Mem}
 use Rattle.machine.specs.Paging.{View}
 use Rattle.machine.specs.Act.{ok}
 use Rattle.encoding.specs.declared.Instruction.{Instruction}
+use Rattle.fetch.specs.Read.{logAt}
 use Rattle.decode.specs.Decode.{decode}
-use Rattle.decode.specs.Read.{logAt}
 use Rattle.execute.specs.Execute.{permitted, first, second, compute}
 use Rattle.outcome.specs.declared.Fast.{Fast}
 use Rattle.outcome.specs.Outcome.{wantFirst, wantSecond, stores, resultOf, coreAfter, doubledAfter}

@@ -44,7 +44,7 @@ pub fn number(mem: &[u8], j: usize, long: bool) -> u32
     if long {
         return dword(mem, j);
     }
-    decode::extend(byte(mem, j))
+    fetch::extend(byte(mem, j))
 }
 
 fn times(x: u32, s: u32) -> u64
@@ -86,7 +86,7 @@ fn sib(mem: &[u8], e: &[u32], j: usize, md: u32) -> Spot
     let s = byte(mem, j);
     if md == 1 {
         return Spot {
-            at: indexed(e, s % 8, s, decode::extend(byte(mem, j + 1))),
+            at: indexed(e, s % 8, s, fetch::extend(byte(mem, j + 1))),
             upto: 4,
         };
     }
@@ -118,7 +118,7 @@ pub fn form(mem: &[u8], e: &[u32], j: usize, b: u32) -> Spot
     }
     if b / 64 == 1 {
         return Spot {
-            at: place(e, b % 8, 8, 1, decode::extend(byte(mem, j))),
+            at: place(e, b % 8, 8, 1, fetch::extend(byte(mem, j))),
             upto: 3,
         };
     }

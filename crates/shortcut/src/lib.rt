@@ -11,7 +11,7 @@ ghost use lib.Dec.{eqb};
 ghost use Rattle.machine.specs.Record.{at, wrap};
 ghost use Rattle.conditions.specs.Conditions.{holds};
 ghost use Rattle.encoding.specs.Encodings.{Classed, classOf};
-ghost use Rattle.decode.specs.Decode.{signed};
+ghost use Rattle.fetch.specs.Fetch.{signed};
 ghost use Rattle.alu.specs.declared.Status.{Status};
 ghost use Rattle.alu.specs.Brief.{statusIn};
 ghost use Rattle.shortcut.specs.Shortcut.{FastOk};
@@ -145,7 +145,7 @@ fn jump_if(s: Brief, eip: u32, b: u32, m: u32) -> Fast
 {
     let next = std::num::wrapping_add_u32(eip, 2);
     if condition::holds(b % 16, s) {
-        return jump(std::num::wrapping_add_u32(next, decode::extend(m)));
+        return jump(std::num::wrapping_add_u32(next, fetch::extend(m)));
     }
     jump(next)
 }
@@ -203,7 +203,7 @@ fn by_opcode(mem: &[u8], e: &[u32], eip: u32, i: usize, b: u32, m: u32) -> Fast
         }
         0xeb => {
             let next = std::num::wrapping_add_u32(eip, 2);
-            jump(std::num::wrapping_add_u32(next, decode::extend(m)))
+            jump(std::num::wrapping_add_u32(next, fetch::extend(m)))
         }
         0xf7 => {
             if (192 <= m) & (m / 8 % 8 == 4) {

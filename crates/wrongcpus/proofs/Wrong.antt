@@ -6,7 +6,8 @@ use lib.Count.{ones}
 use Rattle.alu.specs.Arithmetic.{parity, sumStatus, single, operateOne}
 use Rattle.encoding.specs.Encodings.{classOf}
 use Rattle.encoding.specs.Attributes.{familyOf, operationOf, arithmeticFamily, moveFamily, flowFamily, otherFamily}
-use Rattle.decode.specs.Decode.{number, prefixed, opcode, finish, classed, decode}
+use Rattle.fetch.specs.Fetch.{number}
+use Rattle.decode.specs.Decode.{prefixed, opcode, finish, classed, decode}
 use Rattle.machine.specs.Record.{readAt, writeAt, flagsIn, pack, soundAt}
 use Rattle.machine.specs.Replies.{numbered}
 use Rattle.machine.specs.Paging.{ask, translate, view}

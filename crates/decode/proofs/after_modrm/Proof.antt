@@ -1,5 +1,5 @@
+use Rattle.fetch.proofs.Laws.{got, missed}
 use Rattle.decode.specs.Decode.{afterModrm}
-use Rattle.decode.proofs.Laws.{got, missed}
 use borrow.Author.Needs.{needs}
 use borrow.Author.Tests.{le-leb, lt-leb, eq-eqb, ne-eqb}
 use Rattle.decode.proofs.after_modrm.Statement.{statement}

@@ -1,5 +1,6 @@
+use Rattle.fetch.proofs.Laws.{got, missed}
 use Rattle.decode.specs.Decode.{decode}
-use Rattle.decode.proofs.Laws.{got, missed, got-below}
+use Rattle.decode.proofs.Laws.{got-below}
 use borrow.Author.Needs.{needs}
 use Rattle.decode.proofs.decode.Statement.{statement}
 use Rattle.decode.proofs.decode.Tie as tie

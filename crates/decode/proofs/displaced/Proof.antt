@@ -1,4 +1,4 @@
-use Rattle.decode.proofs.Laws.{got, missed}
+use Rattle.fetch.proofs.Laws.{got, missed}
 use borrow.Author.Needs.{needs}
 use Rattle.decode.proofs.displaced.Statement.{statement}
 use Rattle.decode.proofs.displaced.Tie as tie

@@ -1,5 +1,5 @@
+use Rattle.fetch.proofs.Laws.{got, missed}
 use Rattle.decode.specs.Decode.{finish}
-use Rattle.decode.proofs.Laws.{got, missed}
 use borrow.Author.Needs.{needs}
 use Rattle.decode.proofs.finish.Statement.{statement}
 use Rattle.decode.proofs.finish.Tie as tie

@@ -1,5 +1,6 @@
+use Rattle.fetch.proofs.Laws.{got, missed, byte-small}
 use Rattle.decode.specs.Decode.{opcode, escaped}
-use Rattle.decode.proofs.Laws.{got, missed, byte-small, got-below}
+use Rattle.decode.proofs.Laws.{got-below}
 use borrow.Author.Needs.{needs}
 use borrow.Author.Tests.{eq-eqb, ne-eqb}
 use native.Mathlib.Omega.{arith}

@@ -2,9 +2,10 @@ use lib.Dec.{eqb}
 use Rattle.encoding.specs.Encodings.{override}
 use Prim.Native.Nat.{ℕ, _-_, _≤_}
 use Rattle.machine.specs.Paging.{view}
+use Rattle.fetch.specs.Read.{logAt}
+use Rattle.fetch.proofs.Laws.{got, missed, byte-small}
 use Rattle.decode.specs.Decode.{prefixed}
-use Rattle.decode.specs.Read.{logAt}
-use Rattle.decode.proofs.Laws.{got, missed, byte-small, override-on, override-off, override-miss, override-end}
+use Rattle.decode.proofs.Laws.{override-on, override-off, override-miss, override-end}
 use borrow.Author.Needs.{needs}
 use borrow.Author.Tests.{eq-eqb, ne-eqb}
 use native.Mathlib.Omega.{arith}

@@ -1,5 +1,6 @@
+use Rattle.fetch.proofs.Laws.{got, missed}
 use Rattle.decode.specs.Decode.{withModrm, judged}
-use Rattle.decode.proofs.Laws.{got, missed, made, spoiled}
+use Rattle.decode.proofs.Laws.{made, spoiled}
 use borrow.Author.Needs.{needs}
 use mathlib.Core.Path.{sym, _∙_}
 use Rattle.decode.proofs.with_modrm.Statement.{statement}

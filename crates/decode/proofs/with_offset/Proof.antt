@@ -1,5 +1,5 @@
+use Rattle.fetch.proofs.Laws.{got, missed}
 use Rattle.decode.specs.Decode.{withOffset}
-use Rattle.decode.proofs.Laws.{got, missed}
 use borrow.Author.Needs.{needs}
 use Rattle.decode.proofs.with_offset.Statement.{statement}
 use Rattle.decode.proofs.with_offset.Tie as tie

@@ -1,8 +1,8 @@
-use Rattle.decode.specs.Decode.{number}
+use Rattle.fetch.specs.Fetch.{number}
 use borrow.Author.Needs.{needs}
 use borrow.Author.Tests.{eq-eqb, ne-eqb}
-use Rattle.decode.proofs.number.Statement.{statement}
-use Rattle.decode.proofs.number.Tie as tie
+use Rattle.fetch.proofs.number.Statement.{statement}
+use Rattle.fetch.proofs.number.Tie as tie
 
 fetch-signed-requires : tie.Need-fetch-signed-requires
 fetch-signed-requires c κs = search needs

@@ -1,7 +1,7 @@
 use borrow.Author.Needs.{needs}
 use borrow.Author.Tests.{lt-ltb, le-ltb}
-use Rattle.decode.proofs.extend.Statement.{statement}
-use Rattle.decode.proofs.extend.Tie as tie
+use Rattle.fetch.proofs.extend.Statement.{statement}
+use Rattle.fetch.proofs.extend.Tie as tie
 
 add-result : tie.Need-add-result
 add-result c = search needs

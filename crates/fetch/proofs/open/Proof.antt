@@ -1,8 +1,8 @@
 use Rattle.access.proofs.Laws.{found-at}
 use borrow.Author.Needs.{needs}
 use mathlib.Core.Path.{refl}
-use Rattle.decode.proofs.open.Statement.{statement}
-use Rattle.decode.proofs.open.Tie as tie
+use Rattle.fetch.proofs.open.Statement.{statement}
+use Rattle.fetch.proofs.open.Tie as tie
 
 translate-requires : tie.Need-translate-requires
 translate-requires c κs = search needs

@@ -1,8 +1,8 @@
-use Rattle.decode.specs.Decode.{fetchSigned}
-use Rattle.decode.proofs.Laws.{got, missed, byte-small}
+use Rattle.fetch.specs.Fetch.{fetchSigned}
+use Rattle.fetch.proofs.Laws.{got, missed, byte-small}
 use borrow.Author.Needs.{needs}
-use Rattle.decode.proofs.fetch_signed.Statement.{statement}
-use Rattle.decode.proofs.fetch_signed.Tie as tie
+use Rattle.fetch.proofs.fetch_signed.Statement.{statement}
+use Rattle.fetch.proofs.fetch_signed.Tie as tie
 
 fetch-requires : tie.Need-fetch-requires
 fetch-requires c κs = search needs

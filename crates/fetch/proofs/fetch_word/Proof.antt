@@ -1,9 +1,9 @@
-use Rattle.decode.specs.Decode.{fetchWord}
-use Rattle.decode.proofs.Laws.{got, missed, byte-small}
+use Rattle.fetch.specs.Fetch.{fetchWord}
+use Rattle.fetch.proofs.Laws.{got, missed, byte-small}
 use borrow.Author.Needs.{needs}
 use native.Mathlib.Omega.{arith}
-use Rattle.decode.proofs.fetch_word.Statement.{statement}
-use Rattle.decode.proofs.fetch_word.Tie as tie
+use Rattle.fetch.proofs.fetch_word.Statement.{statement}
+use Rattle.fetch.proofs.fetch_word.Tie as tie
 
 fetch-requires : tie.Need-fetch-requires
 fetch-requires c κs = search needs

@@ -1,8 +1,8 @@
 use Rattle.access.proofs.Laws.{found-at, denied-at}
-use Rattle.decode.proofs.Laws.{fetch-denied, fetch-at}
+use Rattle.fetch.proofs.Laws.{fetch-denied, fetch-at}
 use borrow.Author.Needs.{needs}
-use Rattle.decode.proofs.fetch_far.Statement.{statement}
-use Rattle.decode.proofs.fetch_far.Tie as tie
+use Rattle.fetch.proofs.fetch_far.Statement.{statement}
+use Rattle.fetch.proofs.fetch_far.Tie as tie
 
 wrapping-add-u32-requires : tie.Need-wrapping-add-u32-requires
 wrapping-add-u32-requires c κs = search needs

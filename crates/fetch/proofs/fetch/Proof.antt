@@ -1,8 +1,8 @@
-use Rattle.decode.proofs.Laws.{fetch-full, fetch-near}
+use Rattle.fetch.proofs.Laws.{fetch-full, fetch-near}
 use borrow.Author.Needs.{needs}
 use native.Mathlib.Omega.{arith}
-use Rattle.decode.proofs.fetch.Statement.{statement}
-use Rattle.decode.proofs.fetch.Tie as tie
+use Rattle.fetch.proofs.fetch.Statement.{statement}
+use Rattle.fetch.proofs.fetch.Tie as tie
 
 returns : tie.Need-returns
 returns c = fetch-full _ _ _ _ (c .if1 .taken)
