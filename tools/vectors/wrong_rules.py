@@ -11,7 +11,7 @@ import sys
 
 TOP = os.path.join(os.path.dirname(os.path.abspath(__file__)), "../..")
 A, B, S, P, G, X, E, N, D, M, R, U = "alu", "alu/brief", "shifts", "products", "paging", "access", "encoding", "fetch", "decode", "machine", "micro32", "audit"
-Q, H, O, F, W = "paging/quiet", "paging/held", "outcome", "shortcut/bytes", "swift"  # the quick way's
+Q, H, O, F, W = "keptpages", "keptpages/held", "outcome", "shortcut/bytes", "swift"  # the quick way's
 # where it stands, the wrong rule in words, the text of the rule, the wrong text
 RULES = [
     (B, "SBB's borrow is folded into the subtrahend", "let s = b as u64 + k as u64;", "let s = (b as u64 + k as u64) % 0x1_0000_0000;"),

@@ -1,4 +1,2 @@
 pub mod Cases
 pub mod Pages
-pub mod Settling
-pub mod Holding

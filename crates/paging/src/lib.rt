@@ -1,7 +1,4 @@
 // Linear and physical addresses, and the walk of the pages that leads from one to the other.
-pub mod held;
-pub mod quiet;
-
 ghost use mathlib.Core.Path.{_≡_};
 ghost use mathlib.Core.Bool.{Bool, true, false, cond};
 ghost use Prim.Native.Nat.{ℕ, _+_, _*_, _/_, _%_, _<_, _≤_, _^_};
@@ -68,7 +65,7 @@ fn fast(mem: &[u8], i: usize) -> u32
 }
 
 // The dword at an index: bytes past the end are 0.
-fn dword(mem: &[u8], i: usize) -> u32
+pub fn dword(mem: &[u8], i: usize) -> u32
     requires { ⌜ i < 2 ^ 46 ⌝ }
     ensures { λ r. ⌜ r ≡ dwordAt (now (mem .entry)) i ⌝ }
 {

@@ -16,7 +16,7 @@ use Rattle.alu.specs.Brief.{statusIn}
 use Rattle.shortcut.specs.Shortcut.{coreFrom}
 use Rattle.swift.specs.declared.Rest.{Rest}
 use Rattle.swift.specs.declared.Swift.{Swift}
-use Rattle.paging.specs.declared.quiet.Kept.{Kept}
+use Rattle.keptpages.specs.declared.Kept.{Kept}
 use Rattle.phases.specs.Step.{micro32}
 use Rattle.swift.specs.Swift.{current, SwiftOk, after, RushOk}
 use Rattle.swift.proofs.Onward.{went-on, no-steps}

@@ -17,11 +17,11 @@ use Rattle.machine.specs.Paging.{dwordAt, dirFrame}
 use Rattle.machine.specs.Commit.{Patch, patch, patches}
 use Rattle.paging.specs.declared.Marks.the-variants.{None}
 use Rattle.paging.specs.declared.Physical.{Physical}
-use Rattle.paging.specs.declared.quiet.Kept.{Kept}
+use Rattle.keptpages.specs.declared.Kept.{Kept}
 use Rattle.paging.specs.Walked.{patchesOf}
-use Rattle.paging.specs.declared.quiet.Settled.{Settled}
-use Rattle.paging.specs.declared.quiet.Settled.the-variants.{Ready}
-use Rattle.paging.specs.Quiet.{Quiet, SettledOk, Agree, KeptOk, pageIn, HeldOk}
+use Rattle.keptpages.specs.declared.Settled.{Settled}
+use Rattle.keptpages.specs.declared.Settled.the-variants.{Ready}
+use Rattle.keptpages.specs.Quiet.{Quiet, SettledOk, Agree, KeptOk, pageIn, HeldOk}
 use Rattle.access.specs.declared.Access.{Access}
 use Rattle.access.specs.Located.{asked, trailMarks, placed, puts, nowhere, Held}
 use Rattle.access.proofs.Laws.{nothing-held, near-held, byte-held}
@@ -236,7 +236,7 @@ near-enough true x e h = ltb-false _ _ e
 near-enough false x e h = absurd (false≢true h)
 
 -- the quick walk's answer, in the case at hand
-pub ready-at : {m : Mem} {c : Control} {w : Bool} {l : ℕ} {t : Settled} {i : Physical} → t ≡ Ready i → SettledOk m c w l t → Quiet m c w l i
+pub ready-at : {m : Mem} {c : Control} {w : Bool} {l : ℕ} {t : Settled} {i : ℕ} → t ≡ Ready i → SettledOk m c w l t → Quiet m c w l (record { 0 = i })
 ready-at e h = rw e at h
 
 -- pages of data stay where the next code page's entry is in their table

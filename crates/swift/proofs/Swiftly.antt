@@ -24,8 +24,8 @@ use Rattle.machine.specs.Run.{step}
 use Rattle.paging.specs.declared.Marks.the-variants.{None}
 use Rattle.paging.specs.declared.Translated.the-variants.{Reached}
 use Rattle.paging.specs.Walked.{patchesOf}
-use Rattle.paging.specs.declared.quiet.Kept.{Kept}
-use Rattle.paging.specs.Quiet.{Quiet, KeptOk}
+use Rattle.keptpages.specs.declared.Kept.{Kept}
+use Rattle.keptpages.specs.Quiet.{Quiet, KeptOk}
 use Rattle.access.specs.declared.Trail.{Trail}
 use Rattle.access.specs.Located.{trailMarks, placed, puts}
 use Rattle.access.proofs.Laws.{trail-one}

@@ -13,8 +13,8 @@ use Rattle.machine.specs.Record.{Mem, has, sound, withCore}
 use Rattle.machine.specs.Paging.{dirFrame}
 use Rattle.machine.specs.Commit.{patches}
 use Rattle.machine.specs.Run.{End, step, steps}
-use Rattle.paging.specs.declared.quiet.Kept.{Kept}
-use Rattle.paging.specs.Quiet.{Agree, KeptOk, HeldOk}
+use Rattle.keptpages.specs.declared.Kept.{Kept}
+use Rattle.keptpages.specs.Quiet.{Agree, KeptOk, HeldOk}
 use Rattle.access.specs.declared.Access.{Access}
 use Rattle.access.specs.declared.Place.{Place}
 use Rattle.access.specs.declared.Place.the-variants.{Byte, Near}

@@ -10,21 +10,20 @@ ghost use Rattle.machine.specs.Record.{at, flagsIn};
 ghost use Rattle.machine.specs.Paging.{dwordAt};
 ghost use Rattle.machine.specs.Commit.{patches};
 ghost use Rattle.encoding.specs.Encodings.{Classed};
-ghost use Rattle.paging.specs.Quiet.{HeldOk};
+ghost use Rattle.keptpages.specs.Quiet.{HeldOk};
 ghost use Rattle.access.specs.Located.{placed};
 ghost use Rattle.outcome.specs.Outcome.{nextOf};
 ghost use Rattle.swift.specs.Swift.{saved, spotted, Holds, Reaches, Spared, PagesOk, current, SwiftOk, RushOk, DashOk};
 use alu::Status;
 use alu::brief::Brief;
+use keptpages::Kept;
+use keptpages::Settled;
 use machine::Control;
 use machine::Core;
 use machine::Cpu;
 use machine::Flags;
 use machine::Registers;
 use outcome::Fast;
-use paging::Physical;
-use paging::quiet::Kept;
-use paging::quiet::Settled;
 
 // EIP and the status flags.
 struct Rest {
@@ -83,13 +82,13 @@ fn unsought() -> Sought
     }
 }
 
-fn load(mem: &[u8], w: bool, p: Physical) -> u32
-    ensures { λ r. ⌜ r ≡ cond w (dwordAt (now (mem .entry)) (p .0)) (at (now (mem .entry)) (p .0)) ⌝ }
+fn load(mem: &[u8], w: bool, i: u32) -> u32
+    ensures { λ r. ⌜ r ≡ cond w (dwordAt (now (mem .entry)) i) (at (now (mem .entry)) i) ⌝ }
 {
     if w {
-        return paging::dword_at(mem, p);
+        return paging::dword(mem, i as usize);
     }
-    paging::byte_at(mem, p.index())
+    paging::byte_at(mem, i as usize)
 }
 
 fn either(c: bool, a: u32, b: u32) -> u32
@@ -99,13 +98,13 @@ fn either(c: bool, a: u32, b: u32) -> u32
 }
 
 // Reads what the instruction asks for at i; a push asks for nothing.
-fn loaded(mem: &[u8], p: Fast, i: Physical) -> Sought
-    ensures { λ r. ⌜ (r .found ≡ true) × ((r .at < 4294967296) × ((r .at ≡ i .0) × (Holds p (cond (p .wide) (dwordAt (now (mem .entry)) (i .0)) (at (now (mem .entry)) (i .0))) r))) ⌝ }
+fn loaded(mem: &[u8], p: Fast, i: u32) -> Sought
+    ensures { λ r. ⌜ (r .found ≡ true) × ((r .at < 4294967296) × ((r .at ≡ i) × (Holds p (cond (p .wide) (dwordAt (now (mem .entry)) i) (at (now (mem .entry)) i)) r))) ⌝ }
 {
     if p.access == 4 {
         return Sought {
             found: true,
-            at: i.index(),
+            at: i as usize,
             value: 0,
             x: p.x,
             y: p.y,
@@ -114,7 +113,7 @@ fn loaded(mem: &[u8], p: Fast, i: Physical) -> Sought
     let v = load(mem, p.wide, i);
     Sought {
         found: true,
-        at: i.index(),
+        at: i as usize,
         value: v,
         x: either((p.access == 1) | (p.access == 3), v, p.x),
         y: either((p.access == 2) | (p.access == 5), v, p.y),
@@ -138,7 +137,7 @@ fn seek(mem: &[u8], c: Control, d: &mut [u64], table: u32, p: Fast) -> Sought
     if p.wide & (4092 < p.at % 4096) {
         return unsought();
     }
-    let q = paging::held::find(mem, c, d, table, (p.access == 3) | (p.access == 4), p.at);
+    let q = keptpages::held::find(mem, c, d, table, (p.access == 3) | (p.access == 4), p.at);
     let Settled::Ready(i) = q else {
         return unsought();
     };
@@ -269,11 +268,11 @@ fn turned(mem: &[u8], c: Control, d: &mut [u64], table: u32, holds: bool, eip: u
     requires { ⌜ (holds ≡ true → HeldOk (now mem) c table (now d)) ⌝ }
     ensures { λ h. ⌜ PagesOk (now (mem .entry)) c h (now (d .exit)) ⌝ }
 {
-    let k = paging::quiet::page_of(mem, c, false, eip);
+    let k = keptpages::page_of(mem, c, false, eip);
     if holds & (k.table == table) {
         return apart(k);
     }
-    paging::held::clear(d);
+    keptpages::held::clear(d);
     apart(k)
 }
 

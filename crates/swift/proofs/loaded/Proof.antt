@@ -5,17 +5,11 @@ use mathlib.Core.Path.{refl, ap, _∙_}
 use Rattle.swift.proofs.loaded.Statement.{statement}
 use Rattle.swift.proofs.loaded.Tie as tie
 
-index-requires : tie.Need-index-requires
-index-requires c κs = search needs
-
 returns : tie.Need-returns
-returns c = (refl, ((c .index .ensures .1), ((c .index .ensures .0), pushed ((c .before .before .before .before .args .p)) _ _ ((c .before .if1 .taken)) refl refl refl)))
+returns c = (refl, (search needs, (refl, pushed (c .before .before .before .args .p) _ _ (c .if1 .taken) refl refl refl)))
 
 load-requires : tie.Need-load-requires
 load-requires c κs = search needs
-
-index-requires-2 : tie.Need-index-requires-2
-index-requires-2 c κs = search needs
 
 either-requires : tie.Need-either-requires
 either-requires c κs = search needs
@@ -24,16 +18,7 @@ either-requires-2 : tie.Need-either-requires-2
 either-requires-2 c κs = search needs
 
 returns-2 : tie.Need-returns-2
-returns-2 c = (refl, ((c .before .before .before .before .before .before .index2 .ensures .1), ((c .before .before .before .before .before .before .index2 .ensures .0), read ((c .before .before .before .before .before .before .before .before .before .before .before .args .p)) _ _ ((c .before .before .before .before .before .before .before .before .if1 .left)) ((c .before .before .before .before .before .before .before .load .ensures)) ((c .before .before .before .either .ensures) ∙ ap (leftOf ((c .before .before .before .before .before .before .before .before .before .before .before .args .p))) ((c .before .before .before .before .before .before .before .load .ensures))) ((c .either2 .ensures) ∙ ap (rightOf ((c .before .before .before .before .before .before .before .before .before .before .before .args .p))) ((c .before .before .before .before .before .before .before .load .ensures))))))
+returns-2 c = (refl, (search needs, (refl, read (c .before .before .before .before .before .before .before .before .before .before .args .p) _ _ (c .before .before .before .before .before .before .before .if1 .left) (c .before .before .before .before .before .before .load .ensures) ((c .before .before .before .either .ensures) ∙ ap (leftOf (c .before .before .before .before .before .before .before .before .before .before .args .p)) (c .before .before .before .before .before .before .load .ensures)) ((c .either2 .ensures) ∙ ap (rightOf (c .before .before .before .before .before .before .before .before .before .before .args .p)) (c .before .before .before .before .before .before .load .ensures)))))
 
 pub loaded-spec : {M : Type 1} → statement M
-loaded-spec =
-    tie.close
-    (tie.spec
-    index-requires
-    returns
-    load-requires
-    index-requires-2
-    either-requires
-    either-requires-2
-    returns-2)
+loaded-spec = tie.close (tie.spec returns load-requires either-requires either-requires-2 returns-2)
