@@ -2,10 +2,11 @@
 -- Assumes nothing.
 use Prim.Native.Nat.{ℕ, _+_, _/_, _%_, _<_, _≤_}
 use mathlib.Core.Path.{_≡_, refl, ap, _∙_}
-use mathlib.Core.Bool.{Bool, true, false, _&&_}
+use mathlib.Core.Logic.{_≢_}
+use mathlib.Core.Bool.{Bool, true, false, not, _&&_}
 use mathlib.Core.List.{List}
 use native.Mathlib.Omega.{arith}
-use borrow.Author.Tests.{eq-eqb, ne-eqb, lt-leb, le-leb}
+use borrow.Author.Tests.{eq-eqb, eqb-true, ne-eqb, lt-leb, le-leb}
 use lib.Dec.{eqb}
 use Rattle.machine.specs.Record.{Mem, at}
 use Rattle.machine.specs.Paging.{dwordAt}
@@ -14,11 +15,23 @@ use Rattle.operands.specs.Operands.{address}
 use Rattle.shortcut.specs.Bytes.{displacementAt, isBare, sibAt, sibBytes, operandAt, operandBytes}
 use Rattle.outcome.specs.Outcome.{file}
 use Rattle.shortcut.specs.Forms.{spotOf, upTo}
-use Rattle.shortcut.proofs.Small.{operand-few}
+use Rattle.shortcut.proofs.Small.{operand-few, and-left, and-right, other}
 
 and-false : (x : Bool) → (x && false) ≡ false
 and-false true = refl
 and-false false = refl
+
+-- the code's tests of the commonest forms
+pub near-byte : (b : ℕ) → (eqb (b / 64) 1 && not (eqb (b % 8) 4)) ≡ true → (b / 64 ≡ 1) × (b % 8 ≢ 4)
+near-byte b h = (eqb-true (b / 64) 1 (and-left (eqb (b / 64) 1) (not (eqb (b % 8) 4)) h), other (b % 8) 4 (and-right (eqb (b / 64) 1) (not (eqb (b % 8) 4)) h))
+
+pub near-none : (b : ℕ) → (eqb (b / 64) 0 && (not (eqb (b % 8) 4) && not (eqb (b % 8) 5))) ≡ true → (b / 64 ≡ 0) × ((b % 8 ≢ 4) × (b % 8 ≢ 5))
+near-none b h =
+    let x = eqb (b / 64) 0 in
+    let y = not (eqb (b % 8) 4) in
+    let z = not (eqb (b % 8) 5) in
+    let t = and-right x (y && z) h in
+    (eqb-true (b / 64) 0 (and-left x (y && z) h), (other (b % 8) 4 (and-left y z t), other (b % 8) 5 (and-right y z t)))
 
 -- mod 1 and mod 2 have a base, whatever the SIB byte s
 pub has-base : (s : ℕ) → (eqb (s % 8) 5 && false) ≡ false

@@ -5,13 +5,13 @@ use mathlib.Core.Path.{_≡_, refl, sym, ap, _∙_}
 use mathlib.Core.Bool.{_&&_, Bool, true, false, cond, _||_, false≢true}
 use mathlib.Core.List.{List}
 use native.Mathlib.Omega.{arith}
-use borrow.Author.Tests.{lt-ltb, le-ltb, lt-leb, eq-eqb, ne-eqb, eqb-true, ltb-false}
+use borrow.Author.Tests.{lt-ltb, le-ltb, lt-leb, eq-eqb, ne-eqb, eqb-true, eqb-false, ltb-false}
 use lib.Dec.{ltb, leb, eqb}
 use Rattle.alu.specs.declared.Status.{Status}
 use Rattle.conditions.specs.Conditions.{holds}
 use Rattle.machine.specs.Record.{Mem, at, wrap, register, readAt}
 use Rattle.machine.specs.Paging.{View, dwordAt}
-use Rattle.alu.specs.Arithmetic.{operate, operation}
+use Rattle.alu.specs.Arithmetic.{operate, operation, writes}
 use Rattle.encoding.specs.declared.Instruction.{Instruction}
 use Rattle.encoding.specs.Encodings.{classOf}
 use Rattle.encoding.specs.Attributes.{regField, hasModrm, undefinedForm, unbuiltForm, isWide, immediateBytes, immediateOf, familyOf, operationOf as operationIn, arithmeticFamily, moveFamily, flowFamily, longOpcode}
@@ -25,42 +25,46 @@ use Rattle.outcome.specs.declared.Fast.{Fast}
 use Rattle.shortcut.specs.Bytes.{Shows, operandAt}
 use Rattle.outcome.specs.Outcome.{file}
 use Rattle.shortcut.specs.Forms.{isDirect, isOdd, upTo, numberAt, operationOf, placesAt, placesFast, timesFast, doubleFast, leftFast, toFast, fromFast, numberFast, addressFast, registerFast, loadFast, accumulatorFast, countFast, jumpFast, pushFast, popFast}
-use Rattle.shortcut.specs.Shortcut.{Fits, coreFrom, Idle, FastOk}
-use Rattle.shortcut.proofs.Small.{operand-few}
+use Rattle.shortcut.specs.Shortcut.{Fits, coreFrom, Tidy, Idle, FastOk}
+use Rattle.shortcut.proofs.Small.{operand-few, cond-le, and-left, and-right, or-left, or-right}
 use Rattle.shortcut.proofs.Decoded.{number-none, number-one, number-four, number-long, own, with-modrm, without-modrm}
 use Rattle.shortcut.proofs.Fitting.{below-eight, combiningAt, left-fits, first-to, first-number, from-fits, address-fits, Shifting, shift-fits, times-fits}
 use Rattle.shortcut.proofs.Doubling.{double-fits}
 use Rattle.shortcut.proofs.Singles.{naming, register-fits, inc-fits, dec-fits, jump-fits, jump-on, jump-off, push-fits, push-number-fits, call-fits, pop-fits, return-fits}
 
 pub not-taken : (m : Mem) (e : List ℕ) (s : Status) (eip i : ℕ) (p : Fast) → (p .taken ≡ false) × ((p .jumps ≡ false) × (p .doubling ≡ false)) → FastOk m e s eip i p
-not-taken m e s eip i p h = record { fits = λ t. absurd (false≢true (sym (h .0) ∙ t)); idle = λ t. absurd (false≢true (sym (h .1 .0) ∙ t)); doubles = λ t. absurd (false≢true (sym (h .1 .1) ∙ t)) }
+not-taken m e s eip i p h = record { fits = λ t. absurd (false≢true (sym (h .0) ∙ t)); tidy = λ t. absurd (false≢true (sym (h .0) ∙ t)); idle = λ t. absurd (false≢true (sym (h .1 .0) ∙ t)); doubles = λ t. absurd (false≢true (sym (h .1 .1) ∙ t)) }
+
+-- ---- the stack and memory are used as the code's ends expect
+
+-- no store
+few-tidy : (p : Fast) → p .access ≤ 2 → Tidy p
+few-tidy p h = record { stacking = λ k. absurd (omega (arith, h, k)); landing = λ k. absurd (omega (arith, h, k)) }
+
+-- a push, a pop or a return
+stack-tidy : (p : Fast) → p .op ≡ 9 → p .wide ≡ true → 4 ≤ p .access → Tidy p
+stack-tidy p o w h = record { stacking = λ _. (o, w); landing = λ k. absurd (omega (arith, h, k)) }
+
+-- on the operand
+left-tidy : (m : Mem) (e : List ℕ) (eip i op b md y n : ℕ) → Tidy (leftFast m e eip i op b md y n)
+unfolding leftFast
+left-tidy m e eip i op b md y n = by (isDirect md) refl (writes op) refl
+  where
+    by : (d : Bool) → isDirect md ≡ d → (w : Bool) → writes op ≡ w → Tidy (leftFast m e eip i op b md y n)
+    by true h w k = few-tidy _ (rw h (omega arith))
+    by false h true k = record { stacking = λ f. absurd (omega (arith, rw (h, k) at f)); landing = λ _. rw h }
+    by false h false k = few-tidy _ (rw (h, k) (omega arith))
 
 -- what fits and is no jump; and a jump that fits
 module _ (m : Mem) (e : List ℕ) (s : Status) (eip i : ℕ) (p : Fast) where
   abbrev Fitting : Type 0
   Fitting = (int dir : Bool) (v : View) → Shows v m eip i → Fits v (coreFrom e eip s int dir) p
 
-  working : (p .jumps ≡ false) × (p .doubling ≡ false) → Fitting → FastOk m e s eip i p
-  working h f = record { fits = λ _. f; idle = λ t. absurd (false≢true (sym (h .0) ∙ t)); doubles = λ t. absurd (false≢true (sym (h .1) ∙ t)) }
+  working : (p .jumps ≡ false) × (p .doubling ≡ false) → Tidy p → Fitting → FastOk m e s eip i p
+  working h t f = record { fits = λ _. f; tidy = λ _. t; idle = λ t. absurd (false≢true (sym (h .0) ∙ t)); doubles = λ t. absurd (false≢true (sym (h .1) ∙ t)) }
 
   jumping : Idle p → p .doubling ≡ false → Fitting → FastOk m e s eip i p
-  jumping h n f = record { fits = λ _. f; idle = λ _. h; doubles = λ t. absurd (false≢true (sym n ∙ t)) }
-
-and-left : (x y : Bool) → (x && y) ≡ true → x ≡ true
-and-left true y h = refl
-and-left false y h = h
-
-and-right : (x y : Bool) → (x && y) ≡ true → y ≡ true
-and-right true y h = h
-and-right false y h = absurd (false≢true h)
-
-or-left : (x y : Bool) → (x || y) ≡ false → x ≡ false
-or-left true y h = h
-or-left false y h = refl
-
-or-right : (x y : Bool) → (x || y) ≡ false → y ≡ false
-or-right true y h = absurd (false≢true (sym h))
-or-right false y h = h
+  jumping h n f = record { fits = λ _. f; tidy = λ _. few-tidy p (rw (h .0) (omega arith)); idle = λ _. h; doubles = λ t. absurd (false≢true (sym n ∙ t)) }
 
 -- the code's test: SHL, SHR or SAR
 shifting : (g : ℕ) → g < 8 → (ltb g 4 || eqb g 6) ≡ false → Shifting g
@@ -108,7 +112,7 @@ module _ (m : Mem) (e : List ℕ) (s : Status) (eip i : ℕ) where
 
   to-read : (op : ℕ) → ltb op 10 ≡ true → Reads (combiningAt m i 1 op 0 (upTo m i md)) (upTo m i md) → FastOk m e s eip i (toFast m e eip i op b md)
   unfolding second compute computeArithmetic doCombineTo leftFast
-  to-read op low de = working m e s eip i _ (refl, refl) λ int dir v sh.
+  to-read op low de = working m e s eip i _ (refl, refl) (left-tidy m e eip i op b md _ _) λ int dir v sh.
       left-fits v m e s eip i int dir 1 op 0 _ (upTo m i md) low (de v sh) (λ _ _. refl) (first-to v m e s eip i int dir _ _ _) refl (λ a. refl)
 
   to-4 : classOf b ≡ 4 → FastOk m e s eip i (toFast m e eip i (b / 8 % 8) b md)
@@ -125,7 +129,7 @@ module _ (m : Mem) (e : List ℕ) (s : Status) (eip i : ℕ) where
 
   from-read : (op : ℕ) → ltb op 10 ≡ true → Reads (combiningAt m i 2 op 0 (upTo m i md)) (upTo m i md) → FastOk m e s eip i (fromFast m e eip i op b md)
   unfolding fromFast
-  from-read op low de = working m e s eip i _ (refl, refl) λ int dir v sh. from-fits v m e s eip i int dir op 0 _ low refl (de v sh)
+  from-read op low de = working m e s eip i _ (refl, refl) (few-tidy _ (cond-le (isDirect md) 2 (omega arith) (omega arith))) λ int dir v sh. from-fits v m e s eip i int dir op 0 _ low refl (de v sh)
 
   from-5 : classOf b ≡ 5 → FastOk m e s eip i (fromFast m e eip i (b / 8 % 8) b md)
   unfolding familyOf operationIn
@@ -137,7 +141,7 @@ module _ (m : Mem) (e : List ℕ) (s : Status) (eip i : ℕ) where
 
   address-19 : classOf b ≡ 19 → isDirect md ≡ false → FastOk m e s eip i (addressFast m e eip i md)
   unfolding familyOf operationIn arithmeticFamily moveFamily addressFast
-  address-19 h mem = working m e s eip i _ (refl, refl) λ int dir v sh.
+  address-19 h mem = working m e s eip i _ (refl, refl) (few-tidy _ (omega arith)) λ int dir v sh.
       address-fits v m e s eip i int dir (b % 16) 0 _ refl mem
       (bare 19 h (omega arith) refl (rw mem) refl refl v sh)
 
@@ -145,7 +149,7 @@ module _ (m : Mem) (e : List ℕ) (s : Status) (eip i : ℕ) where
   number-read : (op : ℕ) (long : Bool) → ltb op 10 ≡ true → Reads (combiningAt m i 3 op (numberAt long m (i + upTo m i md)) (upTo m i md + cond long 4 1)) (upTo m i md + cond long 4 1)
       → FastOk m e s eip i (numberFast m e eip i op long b md)
   unfolding second compute computeArithmetic doCombineImmediate leftFast
-  number-read op long low de = working m e s eip i _ (refl, refl) λ int dir v sh.
+  number-read op long low de = working m e s eip i _ (refl, refl) (left-tidy m e eip i op b md _ _) λ int dir v sh.
       left-fits v m e s eip i int dir 3 op (numberAt long m (i + upTo m i md)) _ (upTo m i md + cond long 4 1) low (de v sh) (λ _ _. refl) (first-number v m e s eip i int dir _ _ _) refl (λ a. refl)
 
   after-operand : (long : Bool) (v : View) → Shows v m eip i
@@ -173,9 +177,9 @@ module _ (m : Mem) (e : List ℕ) (s : Status) (eip i : ℕ) where
     places-read : (cl : Bool) (x n : ℕ) → isOdd b ≡ true → placesAt b m e (i + upTo m i md) ≡ cond cl (readAt false (file e) 1) x → upTo m i md + cond (eqb b 0xc1) 1 0 ≡ n
         → Reads (combiningAt m i (cond cl 6 5) g x n) n → FastOk m e s eip i (placesFast m e eip i b md)
     unfolding leftFast first second writesOperand compute computeArithmetic doShift readAt
-    places-read true x n odd ey en de = working m e s eip i _ (refl, refl) λ int dir v sh.
+    places-read true x n odd ey en de = working m e s eip i _ (refl, refl) (left-tidy m e eip i _ b md _ _) λ int dir v sh.
         rw (ey, en) (shift-fits v m e s eip i int dir 6 x (readAt false (file e) 1) n odd by (de v sh) (λ _ _. refl) refl refl (λ a. rw odd))
-    places-read false x n odd ey en de = working m e s eip i _ (refl, refl) λ int dir v sh.
+    places-read false x n odd ey en de = working m e s eip i _ (refl, refl) (left-tidy m e eip i _ b md _ _) λ int dir v sh.
         rw (ey, en) (shift-fits v m e s eip i int dir 5 x x n odd by (de v sh) (λ _ _. refl) refl refl (λ a. rw odd))
 
     places-193 : b ≡ 0xc1 → FastOk m e s eip i (placesFast m e eip i b md)
@@ -195,7 +199,7 @@ module _ (m : Mem) (e : List ℕ) (s : Status) (eip i : ℕ) where
 
   times-33 : (long : Bool) → classOf b ≡ 33 → longOpcode b ≡ long → FastOk m e s eip i (timesFast m e eip i long md)
   unfolding familyOf operationIn arithmeticFamily timesFast
-  times-33 long h l = working m e s eip i _ (refl, refl) λ int dir v sh.
+  times-33 long h l = working m e s eip i _ (refl, refl) (few-tidy _ (cond-le (isDirect md) 2 (omega arith) (omega arith))) λ int dir v sh.
       let few = operand-few m (i + 2) md in
       times-fits v m e s eip i int dir (b % 16) _ (upTo m i md + cond long 4 1) long refl refl
       (with-modrm v m eip i sh 33 _ _ (record { isClass = h; noOverride = refl; noEscape = refl; built = refl; defined = refl }) refl refl refl (rw l (number-long v m eip i sh long (upTo m i md) (omega (arith, few)))))
@@ -204,6 +208,7 @@ module _ (m : Mem) (e : List ℕ) (s : Status) (eip i : ℕ) where
   unfolding classOf doubleFast
   double-247 h d r = record {
     fits = λ t. absurd (false≢true t);
+    tidy = λ t. absurd (false≢true t);
     idle = λ t. absurd (false≢true t);
     doubles = λ _. (refl, λ int dir v sh. double-fits v m e s eip i int dir (ap classOf h) (rw h) d r sh);
   }
@@ -212,14 +217,14 @@ module _ (m : Mem) (e : List ℕ) (s : Status) (eip i : ℕ) where
 
   load-15 : classOf b ≡ 15 → FastOk m e s eip i (loadFast m eip i b)
   unfolding familyOf operationIn operate operation registerFast
-  load-15 h = working m e s eip i _ (refl, refl) λ int dir v sh.
+  load-15 h = working m e s eip i _ (refl, refl) (few-tidy _ (omega arith)) λ int dir v sh.
       register-fits v m e s eip i int dir 9 0 (b % 8) (eqb (b / 8 % 2) 1) refl (below-eight b) (λ _. refl)
       (without-modrm v m eip i sh 15 _ _ (own v m eip i sh 15 h (omega arith)) refl refl (number-long v m eip i sh (eqb (b / 8 % 2) 1) 1 (omega arith)))
 
   accumulator-read : (op : ℕ) → ltb op 10 ≡ true → Reads (naming 3 op (isOdd b) 0 (numberAt (isOdd b) m (i + 1)) (1 + cond (isOdd b) 4 1)) (1 + cond (isOdd b) 4 1)
       → FastOk m e s eip i (accumulatorFast m e eip i op b)
   unfolding registerFast
-  accumulator-read op low de = working m e s eip i _ (refl, refl) λ int dir v sh. register-fits v m e s eip i int dir op _ 0 (isOdd b) low refl (λ _. refl) (de v sh)
+  accumulator-read op low de = working m e s eip i _ (refl, refl) (few-tidy _ (omega arith)) λ int dir v sh. register-fits v m e s eip i int dir op _ 0 (isOdd b) low refl (λ _. refl) (de v sh)
 
   accumulator-6 : classOf b ≡ 6 → FastOk m e s eip i (accumulatorFast m e eip i (b / 8 % 8) b)
   unfolding familyOf operationIn
@@ -233,38 +238,38 @@ module _ (m : Mem) (e : List ℕ) (s : Status) (eip i : ℕ) where
 
   inc-22 : classOf b ≡ 22 → FastOk m e s eip i (countFast e eip 10 b)
   unfolding familyOf operationIn countFast
-  inc-22 h = working m e s eip i _ (refl, refl) λ int dir v sh.
+  inc-22 h = working m e s eip i _ (refl, refl) (few-tidy _ (omega arith)) λ int dir v sh.
       inc-fits v m e s eip i int dir 0
       (without-modrm v m eip i sh 22 0 1 (own v m eip i sh 22 h (omega arith)) refl refl (number-none v m eip i sh 1))
 
   dec-23 : classOf b ≡ 23 → FastOk m e s eip i (countFast e eip 11 b)
   unfolding familyOf operationIn countFast
-  dec-23 h = working m e s eip i _ (refl, refl) λ int dir v sh.
+  dec-23 h = working m e s eip i _ (refl, refl) (few-tidy _ (omega arith)) λ int dir v sh.
       dec-fits v m e s eip i int dir 0
       (without-modrm v m eip i sh 23 0 1 (own v m eip i sh 23 h (omega arith)) refl refl (number-none v m eip i sh 1))
 
   push-26 : classOf b ≡ 26 → register (file e) (b % 8) < 4294967296 → FastOk m e s eip i (pushFast e (register (file e) (b % 8)) (wrap (eip + 1)))
   unfolding familyOf operationIn arithmeticFamily moveFamily pushFast
-  push-26 h y = working m e s eip i _ (refl, refl) λ int dir v sh.
+  push-26 h y = working m e s eip i _ (refl, refl) (stack-tidy _ refl refl (omega arith)) λ int dir v sh.
       push-fits v m e s eip i int dir (b % 16) (b % 8) 0 1 y
       (without-modrm v m eip i sh 26 0 1 (own v m eip i sh 26 h (omega arith)) refl refl (number-none v m eip i sh 1))
 
   push-27 : (long : Bool) → classOf b ≡ 27 → longOpcode b ≡ long → numberAt long m (i + 1) < 4294967296
       → FastOk m e s eip i (pushFast e (numberAt long m (i + 1)) (wrap (eip + (1 + cond long 4 1))))
   unfolding familyOf operationIn arithmeticFamily moveFamily pushFast
-  push-27 long h l y = working m e s eip i _ (refl, refl) λ int dir v sh.
+  push-27 long h l y = working m e s eip i _ (refl, refl) (stack-tidy _ refl refl (omega arith)) λ int dir v sh.
       push-number-fits v m e s eip i int dir (b % 16) 0 (numberAt long m (i + 1)) (1 + cond long 4 1) y
       (without-modrm v m eip i sh 27 _ _ (own v m eip i sh 27 h (omega arith)) refl refl (rw l (number-long v m eip i sh long 1 (omega arith))))
 
   pop-28 : classOf b ≡ 28 → FastOk m e s eip i (popFast e 5 (b % 8) (wrap (eip + 1)))
   unfolding familyOf operationIn arithmeticFamily moveFamily popFast
-  pop-28 h = working m e s eip i _ (refl, refl) λ int dir v sh.
+  pop-28 h = working m e s eip i _ (refl, refl) (stack-tidy _ refl refl (omega arith)) λ int dir v sh.
       pop-fits v m e s eip i int dir (b % 16) 0 1
       (without-modrm v m eip i sh 28 0 1 (own v m eip i sh 28 h (omega arith)) refl refl (number-none v m eip i sh 1))
 
   return-41 : classOf b ≡ 41 → FastOk m e s eip i (popFast e 6 8 (wrap (eip + 1)))
   unfolding familyOf operationIn arithmeticFamily moveFamily flowFamily popFast
-  return-41 h = working m e s eip i _ (refl, refl) λ int dir v sh.
+  return-41 h = working m e s eip i _ (refl, refl) (stack-tidy _ refl refl (omega arith)) λ int dir v sh.
       return-fits v m e s eip i int dir (b % 16) 0 1
       (without-modrm v m eip i sh 41 0 1 (own v m eip i sh 41 h (omega arith)) refl refl (number-none v m eip i sh 1))
 
@@ -295,7 +300,7 @@ module _ (m : Mem) (e : List ℕ) (s : Status) (eip i : ℕ) where
 
   call-232 : b ≡ 232 → FastOk m e s eip i (pushFast e (wrap (eip + 5)) (wrap (wrap (eip + 5) + dwordAt m (i + 1))))
   unfolding familyOf operationIn arithmeticFamily moveFamily flowFamily classOf pushFast
-  call-232 h = working m e s eip i _ (refl, refl) λ int dir v sh.
+  call-232 h = working m e s eip i _ (refl, refl) (stack-tidy _ refl refl (omega arith)) λ int dir v sh.
       call-fits v m e s eip i int dir (b % 16) 0 (dwordAt m (i + 1)) 5
       (without-modrm v m eip i sh 40 (dwordAt m (i + 1)) 5 (own v m eip i sh 40 (ap classOf h) (omega arith)) refl refl (rw h (number-four v m eip i sh 1 (omega arith))))
 
@@ -340,9 +345,6 @@ module _ (m : Mem) (e : List ℕ) (s : Status) (eip i : ℕ) where
     pub taken-test : c′ ≡ 9 → p ≡ accumulatorFast m e eip i 8 b′ → FastOk m e s eip i p
     taken-test h ep = rw (ep, eb) (accumulator-9 (class 9 h))
 
-    pub taken-move : c′ ≡ 16 → md′ / 8 % 8 ≡ 0 → p ≡ numberFast m e eip i 9 (isOdd b′) b′ md′ → FastOk m e s eip i p
-    taken-move h z ep = rw (ep, eb, em) (number-16 (class 16 h) (rw (← em) z))
-
     pub taken-inc : c′ ≡ 22 → p ≡ countFast e eip 10 b′ → FastOk m e s eip i p
     taken-inc h ep = rw (ep, eb) (inc-22 (class 22 h))
 
@@ -376,8 +378,49 @@ module _ (m : Mem) (e : List ℕ) (s : Status) (eip i : ℕ) where
     opcode : (n : ℕ) → b′ ≡ n → at m i ≡ n
     opcode n h = sym eb ∙ h
 
-    pub taken-number : (n : ℕ) (long : Bool) → b′ ≡ n → classOf n ≡ 7 → longOpcode n ≡ long → p ≡ numberFast m e eip i (md′ / 8 % 8) long b′ md′ → FastOk m e s eip i p
-    taken-number n long h c l ep = rw (ep, eb, em) (number-7 long (ap classOf (opcode n h) ∙ c) (ap longOpcode (opcode n h) ∙ l))
+    of-group : (n : ℕ) (long : Bool) → b′ ≡ n → classOf n ≡ 7 → longOpcode n ≡ long → p ≡ numberFast m e eip i (md′ / 8 % 8) long b′ md′ → FastOk m e s eip i p
+    of-group n long h c l ep = rw (ep, eb, em) (number-7 long (ap classOf (opcode n h) ∙ c) (ap longOpcode (opcode n h) ∙ l))
+
+    of-move : (n : ℕ) → b′ ≡ n → classOf n ≡ 16 → md′ / 8 % 8 ≡ 0 → p ≡ numberFast m e eip i 9 (isOdd b′) b′ md′ → FastOk m e s eip i p
+    of-move n h c z ep = rw (ep, eb, em) (number-16 (ap classOf (opcode n h) ∙ c) (rw em at z))
+
+    -- 80 to 83, or MOV by C6 and C7
+    pub taken-number : (op : ℕ) (long : Bool) → (eqb (b′ / 4) 32 || (eqb (b′ / 2) 99 && eqb (md′ / 8 % 8) 0)) ≡ true → op ≡ cond (eqb (b′ / 4) 32) (md′ / 8 % 8) 9
+        → long ≡ (eqb b′ 0x81 || eqb b′ 0xc7) → p ≡ numberFast m e eip i op long b′ md′ → FastOk m e s eip i p
+    unfolding classOf
+    taken-number op long h eo el ep = by (eqb (b′ / 4) 32) refl
+      where
+        at-group : (n : ℕ) (l : Bool) → b′ ≡ n → eqb (n / 4) 32 ≡ true → classOf n ≡ 7 → longOpcode n ≡ l → (eqb n 0x81 || eqb n 0xc7) ≡ l → FastOk m e s eip i p
+        at-group n l k g c f w =
+            let o : op ≡ md′ / 8 % 8 = rw (k, g) at eo in
+            let u : long ≡ l = rw (k, w) at el in
+            of-group n l k c f (rw (o, u) at ep)
+
+        at-move : (n : ℕ) → b′ ≡ n → eqb (n / 4) 32 ≡ false → classOf n ≡ 16 → (eqb n 0x81 || eqb n 0xc7) ≡ isOdd n → md′ / 8 % 8 ≡ 0 → FastOk m e s eip i p
+        at-move n k g c w z =
+            let o : op ≡ 9 = rw (k, g) at eo in
+            let u : long ≡ isOdd b′ = rw k (rw (k, w) at el) in
+            of-move n k c z (rw (o, u) at ep)
+
+        group : b′ / 4 ≡ 32 → (x : Bool) → eqb b′ 0x80 ≡ x → (y : Bool) → eqb b′ 0x81 ≡ y → (z : Bool) → eqb b′ 0x82 ≡ z → FastOk m e s eip i p
+        group k true x y y′ z z′ = at-group 0x80 false (eqb-true _ _ x) refl refl refl refl
+        group k false x true y z z′ = at-group 0x81 true (eqb-true _ _ y) refl refl refl refl
+        group k false x false y true z = at-group 0x82 false (eqb-true _ _ z) refl refl refl refl
+        group k false x false y false z =
+            let n0 : b′ ≡ 0x80 → ⊥ = eqb-false b′ 0x80 x in
+            let n1 : b′ ≡ 0x81 → ⊥ = eqb-false b′ 0x81 y in
+            let n2 : b′ ≡ 0x82 → ⊥ = eqb-false b′ 0x82 z in
+            at-group 0x83 false (omega (arith, k, n0, n1, n2)) refl refl refl refl
+
+        move : b′ / 2 ≡ 99 → md′ / 8 % 8 ≡ 0 → (x : Bool) → eqb b′ 0xc6 ≡ x → FastOk m e s eip i p
+        move k z true x = at-move 0xc6 (eqb-true _ _ x) refl refl refl z
+        move k z false x = let n0 : b′ ≡ 0xc6 → ⊥ = eqb-false b′ 0xc6 x in at-move 0xc7 (omega (arith, k, n0)) refl refl refl z
+
+        by : (x : Bool) → eqb (b′ / 4) 32 ≡ x → FastOk m e s eip i p
+        by true x = group (eqb-true _ _ x) (eqb b′ 0x80) refl (eqb b′ 0x81) refl (eqb b′ 0x82) refl
+        by false x =
+            let t = rw x at h in
+            move (eqb-true _ _ (and-left (eqb (b′ / 2) 99) (eqb (md′ / 8 % 8) 0) t)) (eqb-true _ _ (and-right (eqb (b′ / 2) 99) (eqb (md′ / 8 % 8) 0) t)) (eqb b′ 0xc6) refl
 
     pub taken-places : (eqb b′ 0xc1 || eqb b′ 0xd1 || eqb b′ 0xd3) ≡ true → (ltb (md′ / 8 % 8) 4 || eqb (md′ / 8 % 8) 6) ≡ false → p ≡ placesFast m e eip i b′ md′ → FastOk m e s eip i p
     taken-places h t ep = at-opcode (eqb b′ 0xc1) refl (eqb b′ 0xd1) refl (eqb b′ 0xd3) refl
@@ -394,8 +437,17 @@ module _ (m : Mem) (e : List ℕ) (s : Status) (eip i : ℕ) where
         at-opcode false x false y true z = let n = eqb-true _ _ z in opcode-is (places-211 (shifting _ (omega arith) built) built (opcode 0xd3 n))
         at-opcode false x false y false z = absurd (false≢true (rw (x, y, z) at h))
 
-    pub taken-times : (n : ℕ) (long : Bool) → b′ ≡ n → classOf n ≡ 33 → longOpcode n ≡ long → p ≡ timesFast m e eip i long md′ → FastOk m e s eip i p
-    taken-times n long h c l ep = rw (ep, em) (times-33 long (ap classOf (opcode n h) ∙ c) (ap longOpcode (opcode n h) ∙ l))
+    pub taken-times : (eqb b′ 0x69 || eqb b′ 0x6b) ≡ true → (long : Bool) → long ≡ eqb b′ 0x69 → p ≡ timesFast m e eip i long md′ → FastOk m e s eip i p
+    unfolding classOf
+    taken-times h long el ep = by (eqb b′ 0x69) refl (eqb b′ 0x6b) refl
+      where
+        at-opcode : (n : ℕ) (l : Bool) → b′ ≡ n → classOf n ≡ 33 → longOpcode n ≡ l → eqb n 0x69 ≡ l → FastOk m e s eip i p
+        at-opcode n l k c f w = let u : long ≡ l = rw (k, w) at el in rw (ep, em, u) (times-33 l (ap classOf (opcode n k) ∙ c) (ap longOpcode (opcode n k) ∙ f))
+
+        by : (x : Bool) → eqb b′ 0x69 ≡ x → (y : Bool) → eqb b′ 0x6b ≡ y → FastOk m e s eip i p
+        by true x y y′ = at-opcode 0x69 true (eqb-true _ _ x) refl refl refl
+        by false x true y = at-opcode 0x6b false (eqb-true _ _ y) refl refl refl
+        by false x false y = absurd (false≢true (rw (x, y) at h))
 
     pub taken-double : b′ ≡ 0xf7 → (leb 192 md′ && eqb (md′ / 8 % 8) 4) ≡ true → p ≡ doubleFast e eip md′ → FastOk m e s eip i p
     taken-double h t ep =

@@ -1,6 +1,6 @@
 -- The common encodings in a short form: each that is taken is the instruction that the definition decodes.
 -- Assumes nothing.
-use Prim.Native.Nat.{ℕ, _<_}
+use Prim.Native.Nat.{ℕ, _<_, _≤_}
 use mathlib.Core.Path.{_≡_}
 use mathlib.Core.Bool.{Bool, true}
 use mathlib.Core.List.{List}
@@ -42,8 +42,14 @@ coreFrom e eip s interrupt direction =
 abbrev pub Idle : Fast → Type 0
 Idle p = (p .access ≡ 0) × ((p .op ≡ 9) × (p .to ≡ 8))
 
+-- the stack is used by moves of a dword alone, and what goes to memory goes to no register
+pub record Tidy (p : Fast) : Type 0 where
+  pub stacking : 4 ≤ p .access → (p .op ≡ 9) × (p .wide ≡ true)
+  pub landing : p .access ≡ 3 → p .to ≡ 8
+
 pub record FastOk (m : Mem) (e : List ℕ) (s : Status) (eip i : ℕ) (p : Fast) : Type 0 where
   pub fits : p .taken ≡ true → (interrupt direction : Bool) (v : View) → Shows v m eip i → Fits v (coreFrom e eip s interrupt direction) p
+  pub tidy : p .taken ≡ true → Tidy p
   pub idle : p .jumps ≡ true → Idle p
   pub doubles : p .doubling ≡ true → (p .access ≡ 0) × ((interrupt direction : Bool) (v : View) → Shows v m eip i
       → FitsTo v (coreFrom e eip s interrupt direction) p (λ a. doubledAfter p (coreFrom e eip s interrupt direction)))

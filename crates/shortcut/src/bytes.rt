@@ -1,8 +1,9 @@
 // Reading an instruction's bytes where all of them are there.
+ghost use mathlib.Core.Logic.{_≢_};
 ghost use mathlib.Core.Path.{_≡_};
-ghost use Prim.Native.Nat.{_+_, _<_, _≤_};
+ghost use Prim.Native.Nat.{ℕ, _+_, _/_, _%_, _<_, _≤_};
 ghost use lib.ListN.{length};
-ghost use Rattle.machine.specs.Record.{at};
+ghost use Rattle.machine.specs.Record.{Mem, at};
 ghost use Rattle.machine.specs.Paging.{dwordAt};
 ghost use Rattle.decode.specs.Decode.{inMemory, indexOf, scaleOf};
 ghost use Rattle.operands.specs.Operands.{scaled, address};
@@ -108,6 +109,28 @@ fn sib(mem: &[u8], e: &[u32], j: usize, md: u32) -> Spot
     }
 }
 
+// A register and a signed byte beside it.
+fn beside(mem: &[u8], e: &[u32], j: usize, b: u32) -> Spot
+    requires { ⌜ (j < length (now mem)) × ((b / 64 ≡ 1) × (b % 8 ≢ 4)) ⌝ }
+    ensures { λ r. ⌜ (r .at ≡ address (file (now (e .entry))) (operandAt (now (mem .entry)) j b)) × (r .upto ≡ 2 + operandBytes (now (mem .entry)) j b) ⌝ }
+{
+    Spot {
+        at: place(e, b % 8, 8, 1, fetch::extend(byte(mem, j))),
+        upto: 3,
+    }
+}
+
+// A register alone.
+fn alone(e: &[u32], b: u32) -> Spot
+    requires { ⌜ (b / 64 ≡ 0) × ((b % 8 ≢ 4) × (b % 8 ≢ 5)) ⌝ }
+    ensures { λ r. ⌜ ((m : Mem) (j : ℕ) → (r .at ≡ address (file (now (e .entry))) (operandAt m j b)) × (r .upto ≡ 2 + operandBytes m j b)) ⌝ }
+{
+    Spot {
+        at: place(e, b % 8, 8, 1, 0),
+        upto: 2,
+    }
+}
+
 // A memory operand; b is the ModRM byte, and j the index of the byte after it. Its length is a constant on each path.
 pub fn form(mem: &[u8], e: &[u32], j: usize, b: u32) -> Spot
     requires { ⌜ (j + 5 < length (now mem)) × (b < 192) ⌝ }
@@ -117,10 +140,7 @@ pub fn form(mem: &[u8], e: &[u32], j: usize, b: u32) -> Spot
         return sib(mem, e, j, b / 64);
     }
     if b / 64 == 1 {
-        return Spot {
-            at: place(e, b % 8, 8, 1, fetch::extend(byte(mem, j))),
-            upto: 3,
-        };
+        return beside(mem, e, j, b);
     }
     if b / 64 == 2 {
         return Spot {
@@ -134,13 +154,23 @@ pub fn form(mem: &[u8], e: &[u32], j: usize, b: u32) -> Spot
             upto: 6,
         };
     }
+    alone(e, b)
+}
+
+// The same, field by field, so that the answer of the call need not stand in memory where there is none.
+fn called(mem: &[u8], e: &[u32], j: usize, b: u32) -> Spot
+    requires { ⌜ (j + 5 < length (now mem)) × (b < 192) ⌝ }
+    ensures { λ r. ⌜ (r .at ≡ address (file (now (e .entry))) (operandAt (now (mem .entry)) j b)) × (r .upto ≡ 2 + operandBytes (now (mem .entry)) j b) ⌝ }
+{
+    let q = form(mem, e, j, b);
     Spot {
-        at: place(e, b % 8, 8, 1, 0),
-        upto: 2,
+        at: q.at,
+        upto: q.upto,
     }
 }
 
-// The operand of the ModRM byte b, for the instruction at i.
+// The operand of the ModRM byte b, for the instruction at i. The commonest are told apart first: they are small enough for the compiler to draw
+// into each form that asks, and the others are a call.
 pub fn operand(mem: &[u8], e: &[u32], i: usize, b: u32) -> Spot
     requires { ⌜ i + 16 ≤ length (now mem) ⌝ }
     ensures { λ r. ⌜ (r .at ≡ spotOf (now (mem .entry)) (now (e .entry)) i b) × ((r .upto ≡ upTo (now (mem .entry)) i b) × (r .upto ≤ 7)) ⌝ }
@@ -148,5 +178,11 @@ pub fn operand(mem: &[u8], e: &[u32], i: usize, b: u32) -> Spot
     if 192 <= b {
         return Spot { at: 0, upto: 2 };
     }
-    form(mem, e, i + 2, b)
+    if (b / 64 == 1) & (b % 8 != 4) {
+        return beside(mem, e, i + 2, b);
+    }
+    if (b / 64 == 0) & ((b % 8 != 4) & (b % 8 != 5)) {
+        return alone(e, b);
+    }
+    called(mem, e, i + 2, b)
 }

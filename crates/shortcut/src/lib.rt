@@ -175,20 +175,31 @@ fn operation(c: u32, b: u32) -> u32
     9
 }
 
-// Opcodes that a jump, a call or an immediate makes longer or shorter, one by one.
+// The operand by an immediate: ADD to CMP by the reg field, or MOV. All of them are here, so that the compiler draws the form in.
+fn numbered(mem: &[u8], e: &[u32], eip: u32, i: usize, b: u32, m: u32) -> Fast
+    requires { ⌜ (i + 16 ≤ length (now mem)) × ((b ≡ at (now mem) i) × (m ≡ at (now mem) (i + 1))) ⌝ }
+    ensures { λ r. ⌜ ((s : Status) → FastOk (now (mem .entry)) (now (e .entry)) s eip i r) ⌝ }
+{
+    let group = b / 4 == 32;
+    if !(group | ((b / 2 == 99) & (m / 8 % 8 == 0))) {
+        return none();
+    }
+    let op = modrm::either(group, m / 8 % 8, 9);
+    modrm::by_number(mem, e, eip, i, op, (b == 0x81) | (b == 0xc7), b, m)
+}
+
+// Shifts, products, jumps and calls, by their opcodes.
 fn by_opcode(mem: &[u8], e: &[u32], eip: u32, i: usize, b: u32, m: u32) -> Fast
     requires { ⌜ (i + 16 ≤ length (now mem)) × ((b ≡ at (now mem) i) × ((m ≡ at (now mem) (i + 1)) × (m < 256))) ⌝ }
     ensures { λ r. ⌜ ((s : Status) → FastOk (now (mem .entry)) (now (e .entry)) s eip i r) ⌝ }
 {
+    if (b == 0xc1) | (b == 0xd1) | (b == 0xd3) {
+        return shift(mem, e, eip, i, b, m);
+    }
+    if (b == 0x69) | (b == 0x6b) {
+        return modrm::times_number(mem, e, eip, i, b == 0x69, m);
+    }
     match b {
-        0x69 => modrm::times_number(mem, e, eip, i, true, m),
-        0x6b => modrm::times_number(mem, e, eip, i, false, m),
-        0x80 => modrm::by_number(mem, e, eip, i, m / 8 % 8, false, b, m),
-        0x81 => modrm::by_number(mem, e, eip, i, m / 8 % 8, true, b, m),
-        0x83 => modrm::by_number(mem, e, eip, i, m / 8 % 8, false, b, m),
-        0xc1 => shift(mem, e, eip, i, b, m),
-        0xd1 => shift(mem, e, eip, i, b, m),
-        0xd3 => shift(mem, e, eip, i, b, m),
         0xe8 => {
             let next = std::num::wrapping_add_u32(eip, 5);
             push(
@@ -235,7 +246,7 @@ fn push_number(mem: &[u8], e: &[u32], eip: u32, i: usize, b: u32) -> Fast
     }
 }
 
-// Opcodes without ModRM, and MOV of an immediate with it, by their class.
+// Opcodes without ModRM, by their class.
 fn plain(mem: &[u8], e: &[u32], s: Brief, eip: u32, i: usize, c: u32, b: u32, m: u32) -> Fast
     requires { ⌜ (i + 16 ≤ length (now mem)) × ((b ≡ at (now mem) i) × ((m ≡ at (now mem) (i + 1)) × ((m < 256) × (c ≡ classOf b)))) ⌝ }
     ensures { λ r. ⌜ FastOk (now (mem .entry)) (now (e .entry)) (statusIn s) eip i r ⌝ }
@@ -244,12 +255,6 @@ fn plain(mem: &[u8], e: &[u32], s: Brief, eip: u32, i: usize, c: u32, b: u32, m:
         6 => on_accumulator(mem, e, eip, i, b / 8 % 8, b),
         9 => on_accumulator(mem, e, eip, i, 8, b),
         15 => on_register(mem, eip, i, 9, b / 8 % 2 == 1, 0, b % 8),
-        16 => {
-            if m / 8 % 8 != 0 {
-                return none();
-            }
-            modrm::by_number(mem, e, eip, i, 9, b % 2 == 1, b, m)
-        }
         22 => count(e, eip, 10, b),
         23 => count(e, eip, 11, b),
         26 => push(
@@ -283,6 +288,9 @@ pub fn quick(mem: &[u8], t: &[u8; 512], e: &[u32], s: Brief, eip: u32, i: usize)
     }
     if (c == 5) | (c == 12) {
         return modrm::from_operand(mem, e, eip, i, operation(c, b), b, m);
+    }
+    if (c == 7) | (c == 16) {
+        return numbered(mem, e, eip, i, b, m);
     }
     if c == 19 {
         if 192 <= m {
