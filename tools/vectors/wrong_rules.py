@@ -11,7 +11,7 @@ import sys
 
 TOP = os.path.join(os.path.dirname(os.path.abspath(__file__)), "../..")
 A, B, S, P, G, X, E, N, D, M, R, U = "alu", "alu/brief", "shifts", "products", "paging", "access", "encoding", "fetch", "decode", "machine", "micro32", "audit"
-Q, H, O, F, W = "keptpages", "keptpages/held", "outcome", "shortcut/bytes", "swift"  # the quick way's
+Q, H, O, F, T, W = "keptpages", "keptpages/held", "outcome", "shortcut/bytes", "shortcut", "swift"  # the quick way's
 # where it stands, the wrong rule in words, the text of the rule, the wrong text
 RULES = [
     (B, "SBB's borrow is folded into the subtrahend", "let s = b as u64 + k as u64;", "let s = (b as u64 + k as u64) % 0x1_0000_0000;"),
@@ -101,6 +101,12 @@ RULES = [
     (O, "quick: a pop leaves ESP", "if (p.access == 5) | (p.access == 6) {", "if p.access == 6 {"),
     (O, "quick: AH to BH write the low byte", "    if n / 4 % 2 == 1 {\n        return old", "    if n / 4 % 2 == 2 {\n        return old"),
     (F, "quick: an 8-bit displacement is past the dword's end", "upto: 4,", "upto: 7,"),
+    (F, "quick: ESP and a byte are a base without SIB", "if (b / 64 == 1) & (b % 8 != 4) {", "if b / 64 == 1 {"),
+    (F, "quick: a dword alone is EBP", "& ((b % 8 != 4) & (b % 8 != 5)) {", "& (b % 8 != 4) {"),
+    (T, "quick: C7 by a byte", "(b == 0x81) | (b == 0xc7)", "b == 0x81"),
+    (T, "quick: IMUL by a byte with a dword, and by a dword with a byte", "b == 0x69, m)", "b != 0x69, m)"),
+    (W, "quick: an operation on memory has what lies there for both operands", "either((p.access == 1) | (p.access == 3), p.y, v)", "either(p.access == 1, p.y, v)"),
+    (W, "quick: TEST of dwords sets no flags", "if (p.op == 9) & p.wide {", "if (p.op == 8) & p.wide {"),
 ]
 
 

@@ -45,8 +45,9 @@ stores p = asks 3 p || asks 4 p
 abbrev pub leftOf : Fast → ℕ → ℕ
 leftOf p a = cond (asks 1 p || asks 3 p) a (p .x)
 
+-- a return has no use for it
 abbrev pub rightOf : Fast → ℕ → ℕ
-rightOf p a = cond (asks 2 p || asks 5 p) a (p .y)
+rightOf p a = cond (asks 0 p || asks 4 p || asks 1 p || asks 3 p) (p .y) a
 
 abbrev pub lowOut : Product → Out
 lowOut q = record { value = q .low; status = q .status }

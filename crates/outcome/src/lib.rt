@@ -76,7 +76,8 @@ fn shifted(op: u32, x: u32, n: u32, f: Brief) -> Short
     shifts::shift32(op, n, x, f)
 }
 
-fn dwords(op: u32, x: u32, y: u32, f: Brief) -> Short
+// The value and the flags, of dwords.
+pub fn dwords(op: u32, x: u32, y: u32, f: Brief) -> Short
     ensures { λ r. ⌜ outIn r ≡ outOf op true x y (statusIn f) ⌝ }
 {
     match op {
@@ -119,20 +120,11 @@ fn on_bytes(op: u32, x: u8, y: u8, f: Brief) -> Short
     }
 }
 
-fn bytes(op: u32, x: u32, y: u32, f: Brief) -> Short
+// The same of bytes.
+pub fn bytes(op: u32, x: u32, y: u32, f: Brief) -> Short
     ensures { λ r. ⌜ outIn r ≡ outOf op false x y (statusIn f) ⌝ }
 {
     on_bytes(op, (x % 256) as u8, (y % 256) as u8, f)
-}
-
-// The value and the flags, of these operands.
-pub fn result(p: Fast, x: u32, y: u32, f: Brief) -> Short
-    ensures { λ r. ⌜ outIn r ≡ outOf (p .op) (p .wide) x y (statusIn f) ⌝ }
-{
-    if p.wide {
-        return dwords(p.op, x, y, f);
-    }
-    bytes(p.op, x, y, f)
 }
 
 fn put(e: &mut [u32], n: u32, x: u32)

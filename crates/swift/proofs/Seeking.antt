@@ -2,6 +2,7 @@
 -- Assumes nothing.
 use Prim.Native.Nat.{ℕ, _+_, _/_, _%_, _<_, _≤_}
 use mathlib.Core.Path.{_≡_, refl, sym, ap, _∙_}
+use mathlib.Core.Logic.{_≢_}
 use mathlib.Core.Bool.{Bool, true, false, not, cond, _&&_, _||_, false≢true}
 use mathlib.Core.List.{List, [], append-nil}
 use native.Mathlib.Omega.{arith}
@@ -59,8 +60,10 @@ module _ (p : Fast) where
 pub pushed : (p : Fast) (v : ℕ) (q : Sought) → p .access ≡ 4 → q .value ≡ 0 → q .x ≡ p .x → q .y ≡ p .y → Holds p v q
 pushed p v q h ev ex ey = record { value = ev ∙ rw h; left = ex ∙ rw h; right = ey ∙ rw h }
 
-pub read : (p : Fast) (v : ℕ) (q : Sought) → (p .access ≡ 4 → ⊥) → q .value ≡ v → q .x ≡ leftOf p v → q .y ≡ rightOf p v → Holds p v q
-read p v q n ev ex ey = record { value = ev ∙ rw (ne-eqb (p .access) 4 n) refl; left = ex ∙ ap (leftOf p) (sym ev); right = ey ∙ ap (rightOf p) (sym ev) }
+pub read : (p : Fast) (v : ℕ) (q : Sought) → p .access ≢ 0 → (p .access ≡ 4 → ⊥) → q .value ≡ v → q .x ≡ leftOf p v → q .y ≡ cond (asks 1 p || asks 3 p) (p .y) v → Holds p v q
+read p v q z n ev ex ey =
+    let right : cond (asks 1 p || asks 3 p) (p .y) v ≡ rightOf p v = rw (ne-eqb (p .access) 0 z, ne-eqb (p .access) 4 n) refl in
+    record { value = ev ∙ rw (ne-eqb (p .access) 4 n) refl; left = ex ∙ ap (leftOf p) (sym ev); right = ey ∙ right ∙ ap (rightOf p) (sym ev) }
 
 -- ---- the access that was found
 
@@ -204,7 +207,7 @@ pub pages-move-on : (m m′ : Mem) (c : Control) (h : Kept) (d : List ℕ) → S
 pages-move-on m m′ c h d g k = (moves-on m m′ c false h g (k .0), λ j. moves-on m m′ c _ (pageIn d (h .table) j) g (k .1 j))
 
 module _ (m : Mem) (c : Control) (t : ℕ) (p : Fast) (i v : ℕ) where
-  saved-all : stores p ≡ true → patches (placed (spotted p i) v) m ≡ saved p i v m
+  pub saved-all : stores p ≡ true → patches (placed (spotted p i) v) m ≡ saved p i v m
   unfolding saved
   saved-all s = rw s
 
@@ -225,9 +228,10 @@ module _ (m : Mem) (c : Control) (t : ℕ) (p : Fast) (i v : ℕ) where
           let e′ : m′ ≡ set m i (v % 256) = e ∙ rw w refl in
           rw e′ (length-set m i _, (one-agree m i v (dirFrame c) b, one-agree m i v t a))
 
-  pub stored : {m′ : Mem} → stores p ≡ true → m′ ≡ patches (placed (spotted p i) v) m
-      → (m′ ≡ saved p i v m) × (not (eqb (i / 4096) t || eqb ((i + 3) / 4096) t || eqb (i / 4096) (dirFrame c) || eqb ((i + 3) / 4096) (dirFrame c)) ≡ true → Spared m m′ c t)
-  stored s e = (e ∙ saved-all s, λ h. let n = apart-four _ _ _ _ (not-true _ h) in spared e (n .0) (n .1 .0) (n .1 .1 .0) (n .1 .1 .1))
+  -- the code's test of the frames
+  pub sparing : {m′ : Mem} → m′ ≡ patches (placed (spotted p i) v) m
+      → not (eqb (i / 4096) t || eqb ((i + 3) / 4096) t || eqb (i / 4096) (dirFrame c) || eqb ((i + 3) / 4096) (dirFrame c)) ≡ true → Spared m m′ c t
+  sparing e h = let n = apart-four _ _ _ _ (not-true _ h) in spared e (n .0) (n .1 .0) (n .1 .1 .0) (n .1 .1 .1)
 
 -- ---- from the code's tests
 

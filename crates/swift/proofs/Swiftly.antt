@@ -2,11 +2,12 @@
 -- Assumes nothing.
 use Prim.Native.Nat.{ℕ, _+_, _/_, _%_, _<_, _≤_}
 use mathlib.Core.Path.{_≡_, refl, sym, ap, _∙_}
-use mathlib.Core.Bool.{Bool, true, false, cond, false≢true}
+use mathlib.Core.Bool.{Bool, true, false, cond, _&&_, false≢true}
 use mathlib.Core.List.{List, append-nil}
 use native.Mathlib.Omega.{arith}
 use lib.ListN.{length}
-use borrow.Author.Tests.{ne-eqb}
+use borrow.Author.Tests.{ne-eqb, eqb-true, ltb-true, ltb-false}
+use lib.Dec.{eqb, ltb}
 use Rattle.alu.specs.declared.Status.{Status}
 use Rattle.alu.specs.declared.Out.{Out}
 use Rattle.alu.specs.Arithmetic.{operate, operation}
@@ -34,15 +35,18 @@ use Rattle.execute.specs.Execute.{compute}
 use Rattle.outcome.specs.declared.Fast.{Fast}
 use Rattle.shortcut.specs.Bytes.{Shows}
 use Rattle.outcome.specs.Outcome.{file, asks, stores, leftOf, rightOf, outOf, resultOf, stacked, depositOf, registersAfter, nextOf, coreAfter, doubledIn, doubledOf, doubledAfter}
-use Rattle.shortcut.specs.Shortcut.{FitsTo, coreFrom, Idle, FastOk}
+use Rattle.shortcut.specs.Shortcut.{FitsTo, coreFrom, Idle, Tidy, FastOk}
+use Rattle.outcome.proofs.Effects.{numbered}
+use Rattle.shortcut.proofs.Small.{and-left, and-right}
 use Rattle.phases.specs.declared.Planned.{Planned}
 use Rattle.swift.specs.declared.Rest.{Rest}
 use Rattle.swift.specs.declared.Sought.{Sought}
+use Rattle.swift.specs.declared.Swift.{Swift}
 use Rattle.phases.specs.Step.{micro32}
 use Rattle.phases.specs.Planned.{left}
-use Rattle.swift.specs.Swift.{spotted, saved, Reaches, PagesOk, current, SwiftOk}
+use Rattle.swift.specs.Swift.{spotted, saved, Reaches, Spared, Left, PagesOk, current, SwiftOk}
 use Rattle.swift.proofs.Packed.{core-back, core-again}
-use Rattle.swift.proofs.Seeking.{none-reached}
+use Rattle.swift.proofs.Seeking.{none-reached, pages-move-on}
 use Rattle.phases.proofs.Plans.{ready}
 use Rattle.phases.proofs.Steps.{step-on}
 
@@ -196,6 +200,49 @@ pub of-operands : (p : Fast) (q : Sought) (s : Status) {o : Out} → (q .x ≡ l
 unfolding resultOf
 of-operands p q s g eo = eo ∙ (λ j. outOf (p .op) (p .wide) (g .0 j) (g .1 j) s)
 
+-- ---- the ends of a step
+
+module _ (m : Mem) (e : List ℕ) (c : Control) (t : ℕ) (p : Fast) (q : Sought) (o : Out) where
+  -- nothing is stored, and the stack stays
+  pub few-left : {e′ : List ℕ} (r : Rest) → p .access < 3 → e′ ≡ depositOf p (file e) (o .value) .e → r .eip ≡ p .next → statusIn (r .flags) ≡ o .status
+      → Left m e c t p q o m e′ (record { done = true; holds = true; rest = r })
+  few-left r k ee ei es = record {
+    done = refl;
+    memory = sym (few-saved p k (q .at) (o .value) m);
+    registers = ee ∙ ap (λ (x : Registers). depositOf p x (o .value) .e) (sym (few-stacked p k (file e)));
+    onward = ei ∙ sym (few-next p k (q .value));
+    flags = es;
+    spared = λ _. (refl, ((λ i _. refl), (λ i _. refl)));
+  }
+
+  -- the result goes to memory, and to no register
+  pub stored-left : {m′ : Mem} (r : Rest) (g : Bool) → p .access ≡ 3 → p .to ≡ 8 → m′ ≡ patches (placed (spotted p (q .at)) (o .value)) m → (g ≡ true → Spared m m′ c t)
+      → r .eip ≡ p .next → statusIn (r .flags) ≡ o .status → Left m e c t p q o m′ e (record { done = true; holds = g; rest = r })
+  unfolding saved stacked depositOf
+  stored-left r g h k em es ei ef = record { done = refl; memory = em ∙ rw h; registers = rw (h, k); onward = ei ∙ rw h; flags = ef; spared = es }
+
+  pub moved-left : {m′ : Mem} {e′ : List ℕ} (r : Rest) (g : Bool) → m′ ≡ saved p (q .at) (o .value) m → (g ≡ true → Spared m m′ c t) → e′ ≡ registersAfter p (file e) (o .value) .e
+      → r .eip ≡ nextOf p (q .value) → statusIn (r .flags) ≡ o .status → Left m e c t p q o m′ e′ (record { done = true; holds = g; rest = r })
+  moved-left r g em es ee ei ef = record { done = refl; memory = em; registers = ee; onward = ei; flags = ef; spared = es }
+
+-- the result by another name
+pub left-with : {m m′ : Mem} {e e′ : List ℕ} {c : Control} {t : ℕ} {p : Fast} {q : Sought} {w : Swift} {o o′ : Out} → o ≡ o′ → Left m e c t p q o m′ e′ w → Left m e c t p q o′ m′ e′ w
+left-with h k = rw h at k
+
+-- MOV of a dword
+pub move-out : (op x y : ℕ) (w : Bool) (s : Status) → x < 4294967296 → y < 4294967296 → (eqb op 9 && w) ≡ true → record { value = y; status = s } ≡ outOf op w x y s
+unfolding operation
+move-out op x y true s hx hy h = numbered x y s (omega (arith, hx)) (omega (arith, hy)) (eqb-true op 9 (and-left (eqb op 9) true h)) refl refl
+move-out op x y false s hx hy h = absurd (false≢true (and-right (eqb op 9) false h))
+
+-- what is no move of a dword leaves the stack
+pub tidy-few : (p : Fast) → Tidy p → (eqb (p .op) 9 && p .wide) ≡ false → p .access < 4
+tidy-few p t h = by (ltb (p .access) 4) refl
+  where
+    by : (x : Bool) → ltb (p .access) 4 ≡ x → p .access < 4
+    by true k = ltb-true (p .access) 4 k
+    by false k = let g = t .stacking (ltb-false (p .access) 4 k) in absurd (false≢true (sym h ∙ rw (g .0, g .1)))
+
 -- ---- what the code's step answers
 
 module _ (m : Mem) (e : List ℕ) (c : Control) (r : Rest) (h : Kept) (d′ : List ℕ) where
@@ -227,6 +274,18 @@ module _ (m : Mem) (e : List ℕ) (c : Control) (r : Rest) (h : Kept) (d′ : Li
     few-hopped q taken found few k {o = o} eo ee ei es kept′ =
         hopped true q taken found few eo (sym (few-saved p k (q .at) (o .value) m))
         (ee ∙ ap (λ (x : Registers). depositOf p x (o .value) .e) (sym (few-stacked p k (file e)))) (ei ∙ sym (few-next p k (q .value))) es (λ _. kept′)
+
+    -- an end of the code's
+    pub landed : (q : Sought) → p .taken ≡ true → Reaches m c p q → q .value < 4294967296 → {m′ : Mem} {e′ : List ℕ} {w : Swift} {o : Out}
+        → o ≡ outOf (p .op) (p .wide) (q .x) (q .y) (statusIn (r .flags)) → Left m e c (h .table) p q o m′ e′ w → r′ ≡ w .rest → PagesOk m c h d′ → SwiftOk m e c r h m′ e′ d′ w
+    landed q taken found few {m′} {e′} {w} {o} eo left er pages =
+        let out = of-operands p q (statusIn (r .flags)) (found .operands) eo in
+        let s = hopped (w .holds) q taken found few out (left .memory) (left .registers) (ap (λ (x : Rest). x .eip) er ∙ left .onward) (ap (λ (x : Rest). statusIn (x .flags)) er ∙ left .flags) (λ g. pages-move-on m m′ c h d′ (left .spared g) pages) in
+        record {
+          did = λ _ d hc good. rw (← er) (s .did refl d hc good);
+          not = λ z. absurd (false≢true (sym z ∙ left .done));
+          kept = s .kept;
+        }
 
     pub jumped : p .taken ≡ true → p .jumps ≡ true → r′ .eip ≡ p .next → r′ .flags ≡ r .flags → PagesOk m c h d′ → SwiftOk m e c r h m e d′ (record { done = true; holds = true; rest = r′ })
     jumped taken jumps ei ef kept′ =

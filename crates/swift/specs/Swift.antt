@@ -5,6 +5,7 @@ use mathlib.Core.Path.{_≡_}
 use mathlib.Core.Bool.{Bool, true, false, cond}
 use mathlib.Core.List.{List}
 use lib.ListN.{length}
+use Rattle.alu.specs.declared.Out.{Out}
 use Rattle.alu.specs.Brief.{statusIn}
 use Rattle.machine.specs.declared.Control.{Control}
 use Rattle.machine.specs.declared.Cpu.{Cpu}
@@ -20,7 +21,7 @@ use Rattle.access.specs.declared.Place.{Place}
 use Rattle.access.specs.declared.Place.the-variants.{Byte, Near}
 use Rattle.access.specs.Located.{Held, placed, puts}
 use Rattle.outcome.specs.declared.Fast.{Fast}
-use Rattle.outcome.specs.Outcome.{asks, wantFirst, wantSecond, stores, leftOf, rightOf}
+use Rattle.outcome.specs.Outcome.{file, asks, wantFirst, wantSecond, stores, leftOf, rightOf, registersAfter, nextOf}
 use Rattle.shortcut.specs.Shortcut.{coreFrom}
 use Rattle.swift.specs.declared.Rest.{Rest}
 use Rattle.swift.specs.declared.Swift.{Swift}
@@ -59,6 +60,16 @@ pub record Reaches (m : Mem) (c : Control) (p : Fast) (q : Sought) : Type 0 wher
 -- the directory's frame and the table's are as they were
 abbrev pub Spared : Mem → Mem → Control → ℕ → Type 0
 Spared m m′ c t = (length m′ ≡ length m) × ((Agree m m′ (dirFrame c)) × (Agree m m′ t))
+
+-- what a step leaves whose access was found and whose result is o: memory, the registers, where it goes on, the flags; and if the maps hold on, they
+-- are as they were
+pub record Left (m : Mem) (e : List ℕ) (c : Control) (t : ℕ) (p : Fast) (q : Sought) (o : Out) (m′ : Mem) (e′ : List ℕ) (w : Swift) : Type 0 where
+  pub done : w .done ≡ true
+  pub memory : m′ ≡ saved p (q .at) (o .value) m
+  pub registers : e′ ≡ registersAfter p (file e) (o .value) .e
+  pub onward : w .rest .eip ≡ nextOf p (q .value)
+  pub flags : statusIn (w .rest .flags) ≡ o .status
+  pub spared : w .holds ≡ true → Spared m m′ c t
 
 -- the code page, and pages of data that have their entries in its table
 abbrev pub PagesOk : Mem → Control → Kept → List ℕ → Type 0

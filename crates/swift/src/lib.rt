@@ -1,21 +1,24 @@
 // The quick way through a run: instructions in their short form, on pages that are kept. Where it cannot go on it changes nothing, and the
 // complete step takes over.
+ghost use mathlib.Core.Logic.{_≢_};
 ghost use mathlib.Core.Path.{_≡_};
 ghost use mathlib.Core.Bool.{true, false, cond};
 ghost use Prim.Native.Nat.{_+_, _-_, _*_, _/_, _%_, _<_, _≤_};
 ghost use lib.ListN.{length, set};
 ghost use lib.Dec.{eqb};
-ghost use Rattle.alu.specs.Brief.{statusIn, tellable};
+ghost use Rattle.alu.specs.Brief.{statusIn, outIn, tellable};
 ghost use Rattle.machine.specs.Record.{at, flagsIn};
 ghost use Rattle.machine.specs.Paging.{dwordAt};
 ghost use Rattle.machine.specs.Commit.{patches};
 ghost use Rattle.encoding.specs.Encodings.{Classed};
 ghost use Rattle.keptpages.specs.Quiet.{HeldOk};
 ghost use Rattle.access.specs.Located.{placed};
-ghost use Rattle.outcome.specs.Outcome.{nextOf};
-ghost use Rattle.swift.specs.Swift.{saved, spotted, Holds, Reaches, Spared, PagesOk, current, SwiftOk, RushOk, DashOk};
+ghost use Rattle.outcome.specs.Outcome.{outOf, nextOf};
+ghost use Rattle.shortcut.specs.Shortcut.{Tidy};
+ghost use Rattle.swift.specs.Swift.{saved, spotted, Holds, Reaches, Spared, Left, PagesOk, current, SwiftOk, RushOk, DashOk};
 use alu::Status;
 use alu::brief::Brief;
+use alu::brief::Short;
 use keptpages::Kept;
 use keptpages::Settled;
 use machine::Control;
@@ -99,6 +102,7 @@ fn either(c: bool, a: u32, b: u32) -> u32
 
 // Reads what the instruction asks for at i; a push asks for nothing.
 fn loaded(mem: &[u8], p: Fast, i: u32) -> Sought
+    requires { ⌜ p .access ≢ 0 ⌝ }
     ensures { λ r. ⌜ (r .found ≡ true) × ((r .at < 4294967296) × ((r .at ≡ i) × (Holds p (cond (p .wide) (dwordAt (now (mem .entry)) i) (at (now (mem .entry)) i)) r))) ⌝ }
 {
     if p.access == 4 {
@@ -116,7 +120,7 @@ fn loaded(mem: &[u8], p: Fast, i: u32) -> Sought
         at: i as usize,
         value: v,
         x: either((p.access == 1) | (p.access == 3), v, p.x),
-        y: either((p.access == 2) | (p.access == 5), v, p.y),
+        y: either((p.access == 1) | (p.access == 3), p.y, v),
     }
 }
 
@@ -181,6 +185,18 @@ fn store_at(mem: &mut [u8], p: Fast, i: usize, v: u32)
 }
 
 // Stores the result; answers whether the maps are surely as they were.
+fn store(mem: &mut [u8], c: Control, table: u32, p: Fast, i: usize, v: u32) -> bool
+    requires { ⌜ i < 4294967296 ⌝ }
+    ensures { λ r. ⌜ (now (mem .exit) ≡ patches (placed (spotted p i) v) (now (mem .entry))) × (r ≡ true → Spared (now (mem .entry)) (now (mem .exit)) c table) ⌝ }
+{
+    store_at(mem, p, i, v);
+    let first = (i / 4096) as u32;
+    let last = ((i + 3) / 4096) as u32;
+    let dir = c.cr3 / 4096;
+    !((first == table) | (last == table) | (first == dir) | (last == dir))
+}
+
+// The same where the instruction asks for it.
 fn save(mem: &mut [u8], c: Control, table: u32, p: Fast, i: usize, v: u32) -> bool
     requires { ⌜ i < 4294967296 ⌝ }
     ensures { λ r. ⌜ (now (mem .exit) ≡ saved p i v (now (mem .entry))) × (r ≡ true → Spared (now (mem .entry)) (now (mem .exit)) c table) ⌝ }
@@ -188,11 +204,7 @@ fn save(mem: &mut [u8], c: Control, table: u32, p: Fast, i: usize, v: u32) -> bo
     if !((p.access == 3) | (p.access == 4)) {
         return true;
     }
-    store_at(mem, p, i, v);
-    let first = (i / 4096) as u32;
-    let last = ((i + 3) / 4096) as u32;
-    let dir = c.cr3 / 4096;
-    !((first == table) | (last == table) | (first == dir) | (last == dir))
+    store(mem, c, table, p, i, v)
 }
 
 fn next(p: Fast, a: u32) -> u32
@@ -219,6 +231,75 @@ fn moved(eip: u32, flags: Brief, holds: bool) -> Swift
         holds,
         rest: Rest { eip, flags },
     }
+}
+
+// The end of a step whose result is o: it goes to a register, or to memory and to none. Only moves use the stack.
+fn settle(
+    mem: &mut [u8],
+    e: &mut [u32],
+    c: Control,
+    table: u32,
+    p: Fast,
+    q: Sought,
+    o: Short,
+) -> Swift
+    requires { ⌜ (q .at < 4294967296) × ((p .access < 4) × (p .access ≡ 3 → p .to ≡ 8)) ⌝ }
+    ensures { λ w. ⌜ Left (now (mem .entry)) (now (e .entry)) c table p q (outIn o) (now (mem .exit)) (now (e .exit)) w ⌝ }
+{
+    let g = o.flags;
+    if p.access < 3 {
+        outcome::deposit(e, p, o.value);
+        return moved(p.next, g, true);
+    }
+    let holds = store(mem, c, table, p, q.at, o.value);
+    moved(p.next, g, holds)
+}
+
+// The end of a step that moves the right operand; the flags stay.
+fn settle_move(
+    mem: &mut [u8],
+    e: &mut [u32],
+    c: Control,
+    table: u32,
+    p: Fast,
+    q: Sought,
+    f: Brief,
+) -> Swift
+    requires { ⌜ q .at < 4294967296 ⌝ }
+    ensures { λ w. ⌜ Left (now (mem .entry)) (now (e .entry)) c table p q (record { value = q .y; status = statusIn f }) (now (mem .exit)) (now (e .exit)) w ⌝ }
+{
+    if p.access < 3 {
+        outcome::deposit(e, p, q.y);
+        return moved(p.next, f, true);
+    }
+    outcome::restack(e, p);
+    outcome::deposit(e, p, q.y);
+    let holds = save(mem, c, table, p, q.at, q.y);
+    moved(next(p, q.value), f, holds)
+}
+
+// The end of a step whose operands are found. Moves of a dword, dwords and bytes each have an end of their own, so that the compiler asks once.
+fn finish(
+    mem: &mut [u8],
+    e: &mut [u32],
+    c: Control,
+    table: u32,
+    p: Fast,
+    q: Sought,
+    f: Brief,
+) -> Swift
+    requires { ⌜ (q .at < 4294967296) × ((Tidy p) × ((q .x < 4294967296) × (q .y < 4294967296))) ⌝ }
+    ensures { λ w. ⌜ Left (now (mem .entry)) (now (e .entry)) c table p q (outOf (p .op) (p .wide) (q .x) (q .y) (statusIn f)) (now (mem .exit)) (now (e .exit)) w ⌝ }
+{
+    if (p.op == 9) & p.wide {
+        return settle_move(mem, e, c, table, p, q, f);
+    }
+    if p.wide {
+        let o = outcome::dwords(p.op, q.x, q.y, f);
+        return settle(mem, e, c, table, p, q, o);
+    }
+    let o = outcome::bytes(p.op, q.x, q.y, f);
+    settle(mem, e, c, table, p, q, o)
 }
 
 // One quick step, on the page h.
@@ -251,16 +332,7 @@ fn hop(
     if !q.found {
         return unmoved(r);
     }
-    let o = outcome::result(p, q.x, q.y, f);
-    let g = o.flags;
-    if p.access < 3 {
-        outcome::deposit(e, p, o.value);
-        return moved(p.next, g, true);
-    }
-    outcome::restack(e, p);
-    outcome::deposit(e, p, o.value);
-    let holds = save(mem, c, h.table, p, q.at, o.value);
-    moved(next(p, q.value), g, holds)
+    finish(mem, e, c, h.table, p, q, f)
 }
 
 // The code page of EIP, to be kept. Pages of data whose entries are in another table are dropped, and all where they do not hold on.

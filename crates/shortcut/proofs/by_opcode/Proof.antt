@@ -1,127 +1,87 @@
 use Rattle.shortcut.proofs.Taken.{not-taken, taken-times, taken-double, taken-near, taken-far, taken-call}
 use borrow.Author.Needs.{needs}
-use borrow.Author.Tests.{lt-ltb, le-ltb, le-leb, lt-leb, eq-eqb, ne-eqb, not-true, not-false, ltb-true}
-use native.Mathlib.Omega.{arith}
-use mathlib.Core.Path.{_≡_, refl, sym, ap, _∙_}
+use mathlib.Core.Path.{refl}
 use Rattle.shortcut.proofs.by_opcode.Statement.{statement}
 use Rattle.shortcut.proofs.by_opcode.Tie as tie
-use Rattle.shortcut.proofs.by_opcode.Reads as reads
-use Rattle.shortcut.proofs.by_opcode.Lts as lts
-use Rattle.fetch.proofs.extend.Reads as extend-reads
-use Rattle.shortcut.proofs.bytes.dword.Reads as dword-reads
-use Rattle.shortcut.proofs.jump.Reads as jump-reads
-use Rattle.shortcut.proofs.modrm.double.Reads as double-reads
-use Rattle.shortcut.proofs.modrm.times_number.Reads as times-number-reads
-use Rattle.shortcut.proofs.none.Reads as none-reads
-use Rattle.shortcut.proofs.push.Reads as push-reads
-use Rattle.shortcut.proofs.shift.Reads as shift-reads
-use Rattle.std.proofs.num.wrapping_add_u32.Reads as wrapping-add-u32-reads
 
--- src/lib.rt:197:9
 shift-requires : tie.Need-shift-requires
 shift-requires c κs = search needs
 
--- src/lib.rt:197:9
 returns : tie.Need-returns
 returns c = search needs
 
--- src/lib.rt:200:9
 times-number-requires : tie.Need-times-number-requires
 times-number-requires c κs = search needs
 
--- src/lib.rt:200:9
 returns-2 : tie.Need-returns-2
 returns-2 c = λ s. taken-times ((c .before .before .before .before .before .args .mem .now)) ((c .before .before .before .before .before .args .e .now)) s ((c .before .before .before .before .before .args .eip)) ((c .before .before .before .before .before .args .i)) _ _ ((c .before .before .before .before .before .pre .1 .0)) ((c .before .before .before .before .before .pre .1 .1 .0)) _ ((c .before .if2 .taken)) _ refl ((c .times-number .ensures))
 
--- src/lib.rt:204:17
 wrapping-add-u32-requires : tie.Need-wrapping-add-u32-requires
 wrapping-add-u32-requires c κs = search needs
 
--- src/lib.rt:208:68
 add-dword : tie.Need-add-dword
 add-dword c = search needs
 
--- src/lib.rt:208:50
 dword-requires : tie.Need-dword-requires
 dword-requires c κs = search needs
 
--- src/lib.rt:208:17
 wrapping-add-u32-requires-2 : tie.Need-wrapping-add-u32-requires-2
 wrapping-add-u32-requires-2 c κs = search needs
 
--- src/lib.rt:205:13
 push-requires : tie.Need-push-requires
 push-requires c κs = search needs
 
--- src/lib.rt:212:17
 wrapping-add-u32-requires-3 : tie.Need-wrapping-add-u32-requires-3
 wrapping-add-u32-requires-3 c κs = search needs
 
--- src/lib.rt:213:69
 add-dword-2 : tie.Need-add-dword-2
 add-dword-2 c = search needs
 
--- src/lib.rt:213:51
 dword-requires-2 : tie.Need-dword-requires-2
 dword-requires-2 c κs = search needs
 
--- src/lib.rt:213:18
 wrapping-add-u32-requires-4 : tie.Need-wrapping-add-u32-requires-4
 wrapping-add-u32-requires-4 c κs = search needs
 
--- src/lib.rt:213:13
 jump-requires : tie.Need-jump-requires
 jump-requires c κs = search needs
 
--- src/lib.rt:216:17
 wrapping-add-u32-requires-5 : tie.Need-wrapping-add-u32-requires-5
 wrapping-add-u32-requires-5 c κs = search needs
 
--- src/lib.rt:217:51
 extend-requires : tie.Need-extend-requires
 extend-requires c κs = search needs
 
--- src/lib.rt:217:18
 wrapping-add-u32-requires-6 : tie.Need-wrapping-add-u32-requires-6
 wrapping-add-u32-requires-6 c κs = search needs
 
--- src/lib.rt:217:13
 jump-requires-2 : tie.Need-jump-requires-2
 jump-requires-2 c κs = search needs
 
--- src/lib.rt:221:17
 double-requires : tie.Need-double-requires
 double-requires c κs = search needs
 
--- src/lib.rt:221:17
 returns-3 : tie.Need-returns-3
 returns-3 c = λ s. taken-double ((c .before .before .before .before .before .before .before .args .mem .now)) ((c .before .before .before .before .before .before .before .args .e .now)) s ((c .before .before .before .before .before .before .before .args .eip)) ((c .before .before .before .before .before .before .before .args .i)) _ _ ((c .before .before .before .before .before .before .before .pre .1 .0)) ((c .before .before .before .before .before .before .before .pre .1 .1 .0)) _ ((c .before .before .match .keys4)) ((c .before .if3 .taken)) ((c .double .ensures))
 
--- src/lib.rt:223:13
 none-requires : tie.Need-none-requires
 none-requires c κs = search needs
 
--- src/lib.rt:225:14
 none-requires-2 : tie.Need-none-requires-2
 none-requires-2 c κs = search needs
 
--- src/lib.rt:192:1
 returns-4 : tie.Need-returns-4
 returns-4 c = λ s. taken-call ((c .before .before .before .before .before .before .before .before .before .args .mem .now)) ((c .before .before .before .before .before .before .before .before .before .args .e .now)) s ((c .before .before .before .before .before .before .before .before .before .args .eip)) ((c .before .before .before .before .before .before .before .before .before .args .i)) _ _ ((c .before .before .before .before .before .before .before .before .before .pre .1 .0)) ((c .before .before .before .before .before .before .before .before .before .pre .1 .1 .0)) _ _ _ _ ((c .before .before .before .before .match .keys1)) ((c .before .before .before .wrapping-add-u32 .ensures)) ((c .before .before .dword .ensures)) ((c .before .wrapping-add-u322 .ensures)) ((c .push .ensures))
 
--- src/lib.rt:192:1
 returns-5 : tie.Need-returns-5
 returns-5 c = λ s. taken-far ((c .before .before .before .before .before .before .before .before .before .args .mem .now)) ((c .before .before .before .before .before .before .before .before .before .args .e .now)) s ((c .before .before .before .before .before .before .before .before .before .args .eip)) ((c .before .before .before .before .before .before .before .before .before .args .i)) _ _ ((c .before .before .before .before .before .before .before .before .before .pre .1 .0)) ((c .before .before .before .before .before .before .before .before .before .pre .1 .1 .0)) _ _ _ _ ((c .before .before .before .before .match .keys2)) ((c .before .before .before .wrapping-add-u323 .ensures)) ((c .before .before .dword2 .ensures)) ((c .before .wrapping-add-u324 .ensures)) ((c .jump .ensures))
 
--- src/lib.rt:192:1
 returns-6 : tie.Need-returns-6
 returns-6 c = λ s. taken-near ((c .before .before .before .before .before .before .before .before .before .args .mem .now)) ((c .before .before .before .before .before .before .before .before .before .args .e .now)) s ((c .before .before .before .before .before .before .before .before .before .args .eip)) ((c .before .before .before .before .before .before .before .before .before .args .i)) _ _ ((c .before .before .before .before .before .before .before .before .before .pre .1 .0)) ((c .before .before .before .before .before .before .before .before .before .pre .1 .1 .0)) _ _ _ _ ((c .before .before .before .before .match .keys3)) ((c .before .before .before .wrapping-add-u325 .ensures)) ((c .before .before .extend .ensures)) ((c .before .wrapping-add-u326 .ensures)) ((c .jump2 .ensures))
 
--- src/lib.rt:192:1
 returns-7 : tie.Need-returns-7
 returns-7 c = λ s. not-taken ((c .before .before .before .before .before .before .before .args .mem .now)) ((c .before .before .before .before .before .before .before .args .e .now)) s ((c .before .before .before .before .before .before .before .args .eip)) ((c .before .before .before .before .before .before .before .args .i)) _ ((c .none .ensures))
 
--- src/lib.rt:192:1
 returns-8 : tie.Need-returns-8
 returns-8 c = λ s. not-taken ((c .before .before .before .before .before .before .args .mem .now)) ((c .before .before .before .before .before .before .args .e .now)) s ((c .before .before .before .before .before .before .args .eip)) ((c .before .before .before .before .before .before .args .i)) _ ((c .none2 .ensures))
 

@@ -1,10 +1,7 @@
-use Rattle.alu.specs.Brief.{statusIn}
-use Rattle.outcome.specs.Outcome.{depositOf}
-use Rattle.swift.proofs.Seeking.{pages-move-on}
-use Rattle.swift.proofs.Swiftly.{of-operands, unmoved, hopped, few-hopped, jumped, double-hopped, room-for}
+use Rattle.swift.proofs.Swiftly.{unmoved, landed, jumped, double-hopped, room-for}
 use borrow.Author.Needs.{needs}
 use borrow.Author.Tests.{not-false}
-use mathlib.Core.Path.{refl, ap, _∙_}
+use mathlib.Core.Path.{refl}
 use Rattle.swift.proofs.hop.Statement.{statement}
 use Rattle.swift.proofs.hop.Tie as tie
 
@@ -18,7 +15,7 @@ add-quick : tie.Need-add-quick
 add-quick c = search needs
 
 quick-requires : tie.Need-quick-requires
-quick-requires c κs = (room-for _ ((c .before .before .before .before .before .before .before .args .c)) ((c .before .before .before .before .before .before .before .args .h)) ((c .before .before .before .before .before .before .before .args .r .eip)) _ ((c .before .before .before .before .before .before .before .pre .1 .1 .0 .0)) ((c .before .before .before .before .before .before .before .pre .1 .1 .1 .1 .1)) ((c .before .before .before .before .before .before .before .pre .1 .1 .1 .0)) ((c .before .before .before .before .before .before .before .pre .1 .1 .1 .1 .0)) refl, (c .before .before .before .before .before .before .before .pre .1 .0))
+quick-requires c κs = (room-for _ ((c .before .before .before .before .before .before .before .args .c)) ((c .before .before .before .before .before .before .before .args .h)) ((c .before .before .before .before .before .before .before .args .r .eip)) _ ((c .before .before .before .before .before .before .before .pre .1 .1 .0 .0)) ((c .before .before .before .before .before .before .before .pre .1 .1 .1 .1 .1)) ((c .before .before .before .before .before .before .before .pre .1 .1 .1 .0)) ((c .before .before .before .before .before .before .before .pre .1 .1 .1 .1 .0)) refl, ((c .before .before .before .before .before .before .before .pre .1 .0)))
 
 double-requires : tie.Need-double-requires
 double-requires c κs = search needs
@@ -75,16 +72,10 @@ same-length-9 : tie.Need-same-length-9
 same-length-9 c = search needs
 
 returns-4 : tie.Need-returns-4
-returns-4 c = rw ((c .unmoved2 .ensures)) (unmoved _ _ ((c .before .before .before .before .before .before .before .before .before .before .before .before .before .before .before .before .before .before .before .args .c)) ((c .before .before .before .before .before .before .before .before .before .before .before .before .before .before .before .before .before .before .before .args .r)) ((c .before .before .before .before .before .before .before .before .before .before .before .before .before .before .before .before .before .before .before .args .h)) _ ((c .before .before .before .before .before .before .before .before .before .before .before .before .before .before .before .before .before .before .before .pre .1 .1 .0 .0), (c .before .before .before .before .before .seek .ensures .1 .1 .1)))
+returns-4 c = rw ((c .unmoved2 .ensures)) (unmoved _ _ ((c .before .before .before .before .before .before .before .before .before .before .before .before .before .before .before .before .before .before .before .args .c)) ((c .before .before .before .before .before .before .before .before .before .before .before .before .before .before .before .before .before .before .before .args .r)) ((c .before .before .before .before .before .before .before .before .before .before .before .before .before .before .before .before .before .before .before .args .h)) _ (((c .before .before .before .before .before .before .before .before .before .before .before .before .before .before .before .before .before .before .before .pre .1 .1 .0 .0)), ((c .before .before .before .before .before .seek .ensures .1 .1 .1))))
 
-result-requires : tie.Need-result-requires
-result-requires c κs = search needs
-
-deposit-requires : tie.Need-deposit-requires
-deposit-requires c κs = search needs
-
-moved-requires-3 : tie.Need-moved-requires-3
-moved-requires-3 c κs = search needs
+finish-requires : tie.Need-finish-requires
+finish-requires c κs = (((c .before .before .before .before .before .before .seek .ensures .0)), (((c .before .before .before .before .before .before .before .before .before .before .before .before .quick .ensures .tidy)) (not-false _ ((c .before .before .before .before .before .before .before .before .before .before .if1 .left))), (search needs, search needs)))
 
 same-length-10 : tie.Need-same-length-10
 same-length-10 c = search needs
@@ -96,34 +87,7 @@ same-length-12 : tie.Need-same-length-12
 same-length-12 c = search needs
 
 returns-5 : tie.Need-returns-5
-returns-5 c = rw ((c .moved3 .ensures)) (few-hopped _ _ ((c .before .before .before .before .before .before .before .before .before .before .before .before .before .before .before .before .before .before .before .before .before .before .before .before .before .before .before .args .c)) ((c .before .before .before .before .before .before .before .before .before .before .before .before .before .before .before .before .before .before .before .before .before .before .before .before .before .before .before .args .r)) ((c .before .before .before .before .before .before .before .before .before .before .before .before .before .before .before .before .before .before .before .before .before .before .before .before .before .before .before .args .h)) _ ((c .before .before .before .before .before .before .before .before .before .before .before .before .before .before .before .before .before .before .before .before .before .before .before .before .before .before .before .pre .1 .1 .0 .0)) ((c .before .before .before .before .before .before .before .before .before .before .before .before .before .before .before .before .before .before .before .before .before .before .before .before .before .before .before .pre .0)) ((c .before .before .before .before .before .before .before .before .before .before .before .before .before .before .before .before .before .before .before .before .before .before .before .before .before .before .before .pre .1 .1 .1 .1 .1)) ((c .before .before .before .before .before .before .before .before .before .before .before .before .before .before .before .before .before .before .before .before .before .before .before .before .before .before .before .pre .1 .1 .1 .0)) ((c .before .before .before .before .before .before .before .before .before .before .before .before .before .before .before .before .before .before .before .before .before .before .before .before .before .before .before .pre .1 .1 .1 .1 .0)) _ ((c .before .before .before .before .before .before .before .before .before .before .before .before .before .before .before .before .before .before .before .quick .result)) refl ((c .before .before .before .before .before .before .before .before .before .before .before .before .before .before .before .before .before .before .before .quick .ensures)) _ ((c .before .before .before .before .before .before .before .before .before .before .before .before .before .seek .result)) (not-false _ ((c .before .before .before .before .before .before .before .before .before .before .before .before .before .before .before .before .before .if1 .left))) ((c .before .before .before .before .before .before .before .before .before .before .before .before .before .seek .ensures .1 .1 .0) (not-false _ ((c .before .before .before .before .before .before .before .before .before .if4 .left)))) ((c .before .before .before .before .before .before .before .before .before .before .before .before .before .seek .ensures .1 .0)) ((c .before .before .before .before .before .if5 .taken)) (of-operands ((c .before .before .before .before .before .before .before .before .before .before .before .before .before .before .before .before .before .before .before .quick .result)) ((c .before .before .before .before .before .before .before .before .before .before .before .before .before .seek .result)) (statusIn ((c .before .before .before .before .before .before .before .before .before .before .before .before .before .before .before .before .before .before .before .before .before .before .before .before .before .before .before .args .r .flags))) (((c .before .before .before .before .before .before .before .before .before .before .before .before .before .seek .ensures .1 .1 .0) (not-false _ ((c .before .before .before .before .before .before .before .before .before .if4 .left)))) .operands) ((c .before .before .before .before .before .before .before .before .result .ensures))) ((c .before .before .before .deposit .ensures)) refl refl ((c .before .before .before .before .before .before .before .before .before .before .before .before .before .before .before .before .before .before .before .before .before .before .before .before .before .before .before .pre .1 .1 .0 .0), (c .before .before .before .before .before .before .before .before .before .before .before .before .before .seek .ensures .1 .1 .1)))
-
-restack-requires : tie.Need-restack-requires
-restack-requires c κs = search needs
-
-deposit-requires-2 : tie.Need-deposit-requires-2
-deposit-requires-2 c κs = search needs
-
-save-requires : tie.Need-save-requires
-save-requires c κs = search needs
-
-next-requires : tie.Need-next-requires
-next-requires c κs = search needs
-
-moved-requires-4 : tie.Need-moved-requires-4
-moved-requires-4 c κs = search needs
-
-same-length-13 : tie.Need-same-length-13
-same-length-13 c = search needs
-
-same-length-14 : tie.Need-same-length-14
-same-length-14 c = search needs
-
-same-length-15 : tie.Need-same-length-15
-same-length-15 c = c .before .before .before .before .before .before .before .before .before .before .before .before .before .before .before .before .before .before .before .before .before .before .seek .kept .1 .1 .0
-
-returns-6 : tie.Need-returns-6
-returns-6 c = rw ((c .moved4 .ensures)) (hopped _ _ ((c .before .before .before .before .before .before .before .before .before .before .before .before .before .before .before .before .before .before .before .before .before .before .before .before .before .before .before .before .before .before .before .before .before .before .before .before .args .c)) ((c .before .before .before .before .before .before .before .before .before .before .before .before .before .before .before .before .before .before .before .before .before .before .before .before .before .before .before .before .before .before .before .before .before .before .before .before .args .r)) ((c .before .before .before .before .before .before .before .before .before .before .before .before .before .before .before .before .before .before .before .before .before .before .before .before .before .before .before .before .before .before .before .before .before .before .before .before .args .h)) _ ((c .before .before .before .before .before .before .before .before .before .before .before .before .before .before .before .before .before .before .before .before .before .before .before .before .before .before .before .before .before .before .before .before .before .before .before .before .pre .1 .1 .0 .0)) ((c .before .before .before .before .before .before .before .before .before .before .before .before .before .before .before .before .before .before .before .before .before .before .before .before .before .before .before .before .before .before .before .before .before .before .before .before .pre .0)) ((c .before .before .before .before .before .before .before .before .before .before .before .before .before .before .before .before .before .before .before .before .before .before .before .before .before .before .before .before .before .before .before .before .before .before .before .before .pre .1 .1 .1 .1 .1)) ((c .before .before .before .before .before .before .before .before .before .before .before .before .before .before .before .before .before .before .before .before .before .before .before .before .before .before .before .before .before .before .before .before .before .before .before .before .pre .1 .1 .1 .0)) ((c .before .before .before .before .before .before .before .before .before .before .before .before .before .before .before .before .before .before .before .before .before .before .before .before .before .before .before .before .before .before .before .before .before .before .before .before .pre .1 .1 .1 .1 .0)) _ ((c .before .before .before .before .before .before .before .before .before .before .before .before .before .before .before .before .before .before .before .before .before .before .before .before .before .before .before .before .quick .result)) refl ((c .before .before .before .before .before .before .before .before .before .before .before .before .before .before .before .before .before .before .before .before .before .before .before .before .before .before .before .before .quick .ensures)) _ ((c .before .before .before .before .save .result)) ((c .before .before .before .before .before .before .before .before .before .before .before .before .before .before .before .before .before .before .before .before .before .before .seek .result)) (not-false _ ((c .before .before .before .before .before .before .before .before .before .before .before .before .before .before .before .before .before .before .before .before .before .before .before .before .before .before .if1 .left))) ((c .before .before .before .before .before .before .before .before .before .before .before .before .before .before .before .before .before .before .before .before .before .before .seek .ensures .1 .1 .0) (not-false _ ((c .before .before .before .before .before .before .before .before .before .before .before .before .before .before .before .before .before .before .if4 .left)))) ((c .before .before .before .before .before .before .before .before .before .before .before .before .before .before .before .before .before .before .before .before .before .before .seek .ensures .1 .0)) (of-operands ((c .before .before .before .before .before .before .before .before .before .before .before .before .before .before .before .before .before .before .before .before .before .before .before .before .before .before .before .before .quick .result)) ((c .before .before .before .before .before .before .before .before .before .before .before .before .before .before .before .before .before .before .before .before .before .before .seek .result)) (statusIn ((c .before .before .before .before .before .before .before .before .before .before .before .before .before .before .before .before .before .before .before .before .before .before .before .before .before .before .before .before .before .before .before .before .before .before .before .before .args .r .flags))) (((c .before .before .before .before .before .before .before .before .before .before .before .before .before .before .before .before .before .before .before .before .before .before .seek .ensures .1 .1 .0) (not-false _ ((c .before .before .before .before .before .before .before .before .before .before .before .before .before .before .before .before .before .before .if4 .left)))) .operands) ((c .before .before .before .before .before .before .before .before .before .before .before .before .before .before .before .before .before .result .ensures))) ((c .before .before .before .before .save .ensures .0)) ((c .before .before .before .before .before .before .before .before .deposit2 .ensures) ∙ ap (λ (x : _). depositOf ((c .before .before .before .before .before .before .before .before .before .before .before .before .before .before .before .before .before .before .before .before .before .before .before .before .before .before .before .before .quick .result)) (record { e = x }) ((c .before .before .before .before .before .before .before .before .before .before .before .before .before .before .before .before .before .result .result .value)) .e) ((c .before .before .before .before .before .before .before .before .before .before .before .before .restack .ensures))) ((c .before .next .ensures)) refl (λ g. pages-move-on _ _ ((c .before .before .before .before .before .before .before .before .before .before .before .before .before .before .before .before .before .before .before .before .before .before .before .before .before .before .before .before .before .before .before .before .before .before .before .before .args .c)) ((c .before .before .before .before .before .before .before .before .before .before .before .before .before .before .before .before .before .before .before .before .before .before .before .before .before .before .before .before .before .before .before .before .before .before .before .before .args .h)) (c .before .before .before .before .before .before .before .before .before .before .before .before .before .before .before .before .before .before .before .before .before .before .seek .last .1 .1 .0) ((c .before .before .before .before .save .ensures .1) g) ((c .before .before .before .before .before .before .before .before .before .before .before .before .before .before .before .before .before .before .before .before .before .before .before .before .before .before .before .before .before .before .before .before .before .before .before .before .pre .1 .1 .0 .0), (c .before .before .before .before .before .before .before .before .before .before .before .before .before .before .before .before .before .before .before .before .before .before .seek .ensures .1 .1 .1))))
+returns-5 c = landed _ _ ((c .before .before .before .before .before .before .before .before .before .before .before .before .before .before .before .before .before .before .before .before .before .before .before .before .before .args .c)) ((c .before .before .before .before .before .before .before .before .before .before .before .before .before .before .before .before .before .before .before .before .before .before .before .before .before .args .r)) ((c .before .before .before .before .before .before .before .before .before .before .before .before .before .before .before .before .before .before .before .before .before .before .before .before .before .args .h)) _ ((c .before .before .before .before .before .before .before .before .before .before .before .before .before .before .before .before .before .before .before .before .before .before .before .before .before .pre .1 .1 .0 .0)) ((c .before .before .before .before .before .before .before .before .before .before .before .before .before .before .before .before .before .before .before .before .before .before .before .before .before .pre .0)) ((c .before .before .before .before .before .before .before .before .before .before .before .before .before .before .before .before .before .before .before .before .before .before .before .before .before .pre .1 .1 .1 .1 .1)) ((c .before .before .before .before .before .before .before .before .before .before .before .before .before .before .before .before .before .before .before .before .before .before .before .before .before .pre .1 .1 .1 .0)) ((c .before .before .before .before .before .before .before .before .before .before .before .before .before .before .before .before .before .before .before .before .before .before .before .before .before .pre .1 .1 .1 .1 .0)) _ ((c .before .before .before .before .before .before .before .before .before .before .before .before .before .before .before .before .before .quick .result)) refl ((c .before .before .before .before .before .before .before .before .before .before .before .before .before .before .before .before .before .quick .ensures)) _ ((c .before .before .before .before .before .before .before .before .before .before .before .seek .result)) (not-false _ ((c .before .before .before .before .before .before .before .before .before .before .before .before .before .before .before .if1 .left))) (((c .before .before .before .before .before .before .before .before .before .before .before .seek .ensures .1 .1 .0)) (not-false _ ((c .before .before .before .before .before .before .before .if4 .left)))) ((c .before .before .before .before .before .before .before .before .before .before .before .seek .ensures .1 .0)) refl ((c .before .before .before .before .finish .ensures)) refl (((c .before .before .before .before .before .before .before .before .before .before .before .before .before .before .before .before .before .before .before .before .before .before .before .before .before .pre .1 .1 .0 .0)), ((c .before .before .before .before .before .before .before .before .before .before .before .seek .ensures .1 .1 .1)))
 
 pub hop-spec : {M : Type 1} → statement M
 hop-spec =
@@ -152,19 +116,8 @@ hop-spec =
     same-length-8
     same-length-9
     returns-4
-    result-requires
-    deposit-requires
-    moved-requires-3
+    finish-requires
     same-length-10
     same-length-11
     same-length-12
-    returns-5
-    restack-requires
-    deposit-requires-2
-    save-requires
-    next-requires
-    moved-requires-4
-    same-length-13
-    same-length-14
-    same-length-15
-    returns-6)
+    returns-5)

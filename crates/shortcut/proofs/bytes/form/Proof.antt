@@ -1,63 +1,43 @@
 use Rattle.shortcut.proofs.Spots.{form-sib, form-bare, form-based}
 use borrow.Author.Needs.{needs}
-use borrow.Author.Tests.{lt-ltb, le-ltb, le-leb, lt-leb, eq-eqb, ne-eqb, not-true, not-false, ltb-true}
 use native.Mathlib.Omega.{arith}
-use mathlib.Core.Path.{_≡_, refl, sym, ap, _∙_}
+use mathlib.Core.Path.{refl}
 use Rattle.shortcut.proofs.bytes.form.Statement.{statement}
 use Rattle.shortcut.proofs.bytes.form.Tie as tie
-use Rattle.shortcut.proofs.bytes.form.Reads as reads
-use Rattle.shortcut.proofs.bytes.form.Lts as lts
-use Rattle.shortcut.proofs.bytes.alone.Reads as alone-reads
-use Rattle.shortcut.proofs.bytes.beside.Reads as beside-reads
-use Rattle.shortcut.proofs.bytes.dword.Reads as dword-reads
-use Rattle.shortcut.proofs.bytes.place.Reads as place-reads
-use Rattle.shortcut.proofs.bytes.sib.Reads as sib-reads
 
--- src/bytes.rt:140:9
 sib-requires : tie.Need-sib-requires
 sib-requires c κs = search needs
 
--- src/bytes.rt:140:9
 returns : tie.Need-returns
 returns c = form-sib _ ((c .before .before .before .before .args .e .now)) _ _ _ ((c .before .before .before .before .pre .1)) _ ((c .before .if1 .taken)) ((c .sib .ensures .0)) ((c .sib .ensures .1))
 
--- src/bytes.rt:143:9
 beside-requires : tie.Need-beside-requires
 beside-requires c κs = search needs
 
--- src/bytes.rt:143:9
 returns-2 : tie.Need-returns-2
 returns-2 c = search needs
 
--- src/bytes.rt:147:39
 dword-requires : tie.Need-dword-requires
 dword-requires c κs = search needs
 
--- src/bytes.rt:147:17
 place-requires : tie.Need-place-requires
 place-requires c κs = search needs
 
--- src/bytes.rt:146:9
 returns-3 : tie.Need-returns-3
 returns-3 c = form-based _ ((c .before .before .before .before .before .before .before .args .e .now)) _ _ _ ((c .before .before .before .before .before .before .before .pre .1)) 2 _ ((c .before .before .if3 .taken)) ((c .before .before .before .before .if1 .left)) refl ((c .before .dword .ensures)) ((c .place .ensures))
 
--- src/bytes.rt:153:35
 dword-requires-2 : tie.Need-dword-requires-2
 dword-requires-2 c κs = search needs
 
--- src/bytes.rt:153:17
 place-requires-2 : tie.Need-place-requires-2
 place-requires-2 c κs = search needs
 
--- src/bytes.rt:152:9
 returns-4 : tie.Need-returns-4
 returns-4 c = form-bare _ ((c .before .before .before .before .before .before .before .before .args .e .now)) _ _ _ ((c .before .before .before .before .before .before .before .before .pre .1)) _ (omega arith) ((c .before .before .if4 .taken)) ((c .before .dword2 .ensures)) ((c .place2 .ensures))
 
--- src/bytes.rt:157:5
 alone-requires : tie.Need-alone-requires
 alone-requires c κs = search needs
 
--- src/bytes.rt:135:1
 returns-5 : tie.Need-returns-5
 returns-5 c = ((c .alone .ensures)) _ _
 
