@@ -2,7 +2,7 @@
 -- Assumes nothing.
 use Prim.Native.Nat.{ℕ, _+_, _/_, _%_, _<_, _≤_}
 use mathlib.Core.Path.{_≡_, refl, sym, ap, _∙_}
-use mathlib.Core.Bool.{_&&_, Bool, true, false, cond, _||_, false≢true}
+use mathlib.Core.Bool.{_&&_, Bool, true, false, not, cond, _||_, false≢true}
 use mathlib.Core.List.{List}
 use native.Mathlib.Omega.{arith}
 use borrow.Author.Tests.{lt-ltb, le-ltb, lt-leb, eq-eqb, ne-eqb, eqb-true, eqb-false, ltb-false}
@@ -27,6 +27,7 @@ use Rattle.outcome.specs.Outcome.{file}
 use Rattle.shortcut.specs.Forms.{isDirect, isOdd, upTo, numberAt, operationOf, placesAt, placesFast, timesFast, doubleFast, leftFast, toFast, fromFast, numberFast, addressFast, registerFast, loadFast, accumulatorFast, countFast, jumpFast, pushFast, popFast}
 use Rattle.shortcut.specs.Shortcut.{Fits, coreFrom, Tidy, Idle, FastOk}
 use Rattle.shortcut.proofs.Small.{operand-few, cond-le, and-left, and-right, or-left, or-right}
+use Rattle.shortcut.proofs.Classes.{group-opcodes, move-opcodes, jump-opcodes}
 use Rattle.shortcut.proofs.Decoded.{number-none, number-one, number-four, number-long, own, with-modrm, without-modrm}
 use Rattle.shortcut.proofs.Fitting.{below-eight, combiningAt, left-fits, first-to, first-number, from-fits, address-fits, Shifting, shift-fits, times-fits}
 use Rattle.shortcut.proofs.Doubling.{double-fits}
@@ -336,6 +337,43 @@ module _ (m : Mem) (e : List ℕ) (s : Status) (eip i : ℕ) where
     pub taken-address : c′ ≡ 19 → md′ < 192 → p ≡ addressFast m e eip i md′ → FastOk m e s eip i p
     taken-address h d ep = rw (ep, em) (address-19 (class 19 h) (rw (← em) (lt-leb 192 md′ d)))
 
+    -- 80 to 83, or MOV by C6 and C7
+    pub taken-number : b′ < 256 → (eqb c′ 7 || eqb c′ 16) ≡ true → (op : ℕ) (long : Bool) → (eqb c′ 7 || eqb (md′ / 8 % 8) 0) ≡ true → op ≡ cond (eqb c′ 7) (md′ / 8 % 8) 9
+        → long ≡ (isOdd b′ && not (eqb b′ 0x83)) → p ≡ numberFast m e eip i op long b′ md′ → FastOk m e s eip i p
+    taken-number small hc op long ht eo el ep = by (eqb c′ 7) refl
+      where
+        at-group : c′ ≡ 7 → (n : ℕ) (l : Bool) → b′ ≡ n → longOpcode n ≡ l → (isOdd n && not (eqb n 0x83)) ≡ l → FastOk m e s eip i p
+        at-group g n l k f w =
+            let o : op ≡ md′ / 8 % 8 = rw g at eo in
+            let u : long ≡ l = rw (k, w) at el in
+            rw (ep, o, u, eb, em) (number-7 l (class 7 g) (ap longOpcode (sym eb ∙ k) ∙ f))
+
+        at-move : c′ ≡ 16 → md′ / 8 % 8 ≡ 0 → (n : ℕ) → b′ ≡ n → (isOdd n && not (eqb n 0x83)) ≡ isOdd n → FastOk m e s eip i p
+        at-move g z n k w =
+            let o : op ≡ 9 = rw g at eo in
+            let u : long ≡ isOdd b′ = rw k (rw (k, w) at el) in
+            rw (ep, o, u, eb, em) (number-16 (class 16 g) (rw em at z))
+
+        group : c′ ≡ 7 → b′ / 4 ≡ 32 → (x : Bool) → eqb b′ 0x80 ≡ x → (y : Bool) → eqb b′ 0x81 ≡ y → (z : Bool) → eqb b′ 0x82 ≡ z → FastOk m e s eip i p
+        group g k true x y y′ z z′ = at-group g 0x80 false (eqb-true _ _ x) refl refl
+        group g k false x true y z z′ = at-group g 0x81 true (eqb-true _ _ y) refl refl
+        group g k false x false y true z = at-group g 0x82 false (eqb-true _ _ z) refl refl
+        group g k false x false y false z =
+            let n0 : b′ ≡ 0x80 → ⊥ = eqb-false b′ 0x80 x in
+            let n1 : b′ ≡ 0x81 → ⊥ = eqb-false b′ 0x81 y in
+            let n2 : b′ ≡ 0x82 → ⊥ = eqb-false b′ 0x82 z in
+            at-group g 0x83 false (omega (arith, k, n0, n1, n2)) refl refl
+
+        move : c′ ≡ 16 → b′ / 2 ≡ 99 → md′ / 8 % 8 ≡ 0 → (x : Bool) → eqb b′ 0xc6 ≡ x → FastOk m e s eip i p
+        move g k z true x = at-move g z 0xc6 (eqb-true _ _ x) refl
+        move g k z false x = let n0 : b′ ≡ 0xc6 → ⊥ = eqb-false b′ 0xc6 x in at-move g z 0xc7 (omega (arith, k, n0)) refl
+
+        by : (x : Bool) → eqb c′ 7 ≡ x → FastOk m e s eip i p
+        by true x = let g = eqb-true c′ 7 x in group g (group-opcodes b′ small (sym ec ∙ g)) (eqb b′ 0x80) refl (eqb b′ 0x81) refl (eqb b′ 0x82) refl
+        by false x =
+            let g = eqb-true c′ 16 (rw x at hc) in
+            move g (move-opcodes b′ small (sym ec ∙ g)) (eqb-true (md′ / 8 % 8) 0 (rw x at ht)) (eqb b′ 0xc6) refl
+
     pub taken-load : c′ ≡ 15 → p ≡ loadFast m eip i b′ → FastOk m e s eip i p
     taken-load h ep = rw (ep, eb) (load-15 (class 15 h))
 
@@ -371,56 +409,12 @@ module _ (m : Mem) (e : List ℕ) (s : Status) (eip i : ℕ) where
         let n6 : b′ < 0x180 = omega arith in
         rw (ne-eqb _ _ n1, ne-eqb _ _ n2, ne-eqb _ _ n3, ne-eqb _ _ n4, ne-eqb _ _ n5, lt-leb _ _ n6)
 
-    pub taken-jump : c′ ≡ 36 → b′ / 16 ≡ 7 → p ≡ jumpFast (cond (holds (b′ % 16) s) (wrap (wrap (eip + 2) + signed md′)) (wrap (eip + 2))) → FastOk m e s eip i p
-    taken-jump h k ep = rw (ep, eb, em) (jump-36 (class 36 h) (rw (← eb) (short k)))
+    pub taken-jump : c′ ≡ 36 → b′ < 256 → p ≡ jumpFast (cond (holds (b′ % 16) s) (wrap (wrap (eip + 2) + signed md′)) (wrap (eip + 2))) → FastOk m e s eip i p
+    taken-jump h l ep = rw (ep, eb, em) (jump-36 (class 36 h) (rw (← eb) (short (jump-opcodes b′ l (sym ec ∙ h)))))
 
   module _ (b′ md′ : ℕ) (eb : b′ ≡ at m i) (em : md′ ≡ at m (i + 1)) (p : Fast) where
     opcode : (n : ℕ) → b′ ≡ n → at m i ≡ n
     opcode n h = sym eb ∙ h
-
-    of-group : (n : ℕ) (long : Bool) → b′ ≡ n → classOf n ≡ 7 → longOpcode n ≡ long → p ≡ numberFast m e eip i (md′ / 8 % 8) long b′ md′ → FastOk m e s eip i p
-    of-group n long h c l ep = rw (ep, eb, em) (number-7 long (ap classOf (opcode n h) ∙ c) (ap longOpcode (opcode n h) ∙ l))
-
-    of-move : (n : ℕ) → b′ ≡ n → classOf n ≡ 16 → md′ / 8 % 8 ≡ 0 → p ≡ numberFast m e eip i 9 (isOdd b′) b′ md′ → FastOk m e s eip i p
-    of-move n h c z ep = rw (ep, eb, em) (number-16 (ap classOf (opcode n h) ∙ c) (rw em at z))
-
-    -- 80 to 83, or MOV by C6 and C7
-    pub taken-number : (op : ℕ) (long : Bool) → (eqb (b′ / 4) 32 || (eqb (b′ / 2) 99 && eqb (md′ / 8 % 8) 0)) ≡ true → op ≡ cond (eqb (b′ / 4) 32) (md′ / 8 % 8) 9
-        → long ≡ (eqb b′ 0x81 || eqb b′ 0xc7) → p ≡ numberFast m e eip i op long b′ md′ → FastOk m e s eip i p
-    unfolding classOf
-    taken-number op long h eo el ep = by (eqb (b′ / 4) 32) refl
-      where
-        at-group : (n : ℕ) (l : Bool) → b′ ≡ n → eqb (n / 4) 32 ≡ true → classOf n ≡ 7 → longOpcode n ≡ l → (eqb n 0x81 || eqb n 0xc7) ≡ l → FastOk m e s eip i p
-        at-group n l k g c f w =
-            let o : op ≡ md′ / 8 % 8 = rw (k, g) at eo in
-            let u : long ≡ l = rw (k, w) at el in
-            of-group n l k c f (rw (o, u) at ep)
-
-        at-move : (n : ℕ) → b′ ≡ n → eqb (n / 4) 32 ≡ false → classOf n ≡ 16 → (eqb n 0x81 || eqb n 0xc7) ≡ isOdd n → md′ / 8 % 8 ≡ 0 → FastOk m e s eip i p
-        at-move n k g c w z =
-            let o : op ≡ 9 = rw (k, g) at eo in
-            let u : long ≡ isOdd b′ = rw k (rw (k, w) at el) in
-            of-move n k c z (rw (o, u) at ep)
-
-        group : b′ / 4 ≡ 32 → (x : Bool) → eqb b′ 0x80 ≡ x → (y : Bool) → eqb b′ 0x81 ≡ y → (z : Bool) → eqb b′ 0x82 ≡ z → FastOk m e s eip i p
-        group k true x y y′ z z′ = at-group 0x80 false (eqb-true _ _ x) refl refl refl refl
-        group k false x true y z z′ = at-group 0x81 true (eqb-true _ _ y) refl refl refl refl
-        group k false x false y true z = at-group 0x82 false (eqb-true _ _ z) refl refl refl refl
-        group k false x false y false z =
-            let n0 : b′ ≡ 0x80 → ⊥ = eqb-false b′ 0x80 x in
-            let n1 : b′ ≡ 0x81 → ⊥ = eqb-false b′ 0x81 y in
-            let n2 : b′ ≡ 0x82 → ⊥ = eqb-false b′ 0x82 z in
-            at-group 0x83 false (omega (arith, k, n0, n1, n2)) refl refl refl refl
-
-        move : b′ / 2 ≡ 99 → md′ / 8 % 8 ≡ 0 → (x : Bool) → eqb b′ 0xc6 ≡ x → FastOk m e s eip i p
-        move k z true x = at-move 0xc6 (eqb-true _ _ x) refl refl refl z
-        move k z false x = let n0 : b′ ≡ 0xc6 → ⊥ = eqb-false b′ 0xc6 x in at-move 0xc7 (omega (arith, k, n0)) refl refl refl z
-
-        by : (x : Bool) → eqb (b′ / 4) 32 ≡ x → FastOk m e s eip i p
-        by true x = group (eqb-true _ _ x) (eqb b′ 0x80) refl (eqb b′ 0x81) refl (eqb b′ 0x82) refl
-        by false x =
-            let t = rw x at h in
-            move (eqb-true _ _ (and-left (eqb (b′ / 2) 99) (eqb (md′ / 8 % 8) 0) t)) (eqb-true _ _ (and-right (eqb (b′ / 2) 99) (eqb (md′ / 8 % 8) 0) t)) (eqb b′ 0xc6) refl
 
     pub taken-places : (eqb b′ 0xc1 || eqb b′ 0xd1 || eqb b′ 0xd3) ≡ true → (ltb (md′ / 8 % 8) 4 || eqb (md′ / 8 % 8) 6) ≡ false → p ≡ placesFast m e eip i b′ md′ → FastOk m e s eip i p
     taken-places h t ep = at-opcode (eqb b′ 0xc1) refl (eqb b′ 0xd1) refl (eqb b′ 0xd3) refl

@@ -1,7 +1,7 @@
 -- The short form of each encoding that is taken, as a function of the bytes at index i: b is the opcode, m the byte after it.
 -- Assumes nothing.
 use Prim.Native.Nat.{ℕ, _+_, _/_, _%_}
-use mathlib.Core.Bool.{Bool, true, false, cond}
+use mathlib.Core.Bool.{Bool, true, false, cond, _||_}
 use mathlib.Core.List.{List}
 use lib.Dec.{leb, eqb}
 use Rattle.alu.specs.Arithmetic.{writes}
@@ -19,7 +19,11 @@ isDirect m = leb 192 m
 abbrev pub isOdd : ℕ → Bool
 isOdd b = eqb (b % 2) 1
 
--- the operation of a class with ModRM: ADD to CMP by the opcode (4, 5), TEST (8), MOV (11, 12)
+-- the classes of two operands with ModRM, in either direction
+abbrev pub combines : ℕ → Bool
+combines c = (eqb c 4 || eqb c 8 || eqb c 11) || (eqb c 5 || eqb c 12)
+
+-- the operation of such a class: ADD to CMP by the opcode (4, 5), TEST (8), MOV (11, 12)
 abbrev pub operationOf : ℕ → ℕ → ℕ
 operationOf c b = cond (leb c 5) (b / 8 % 8) (cond (eqb c 8) 8 9)
 

@@ -15,7 +15,7 @@ ghost use Rattle.fetch.specs.Fetch.{signed};
 ghost use Rattle.alu.specs.declared.Status.{Status};
 ghost use Rattle.alu.specs.Brief.{statusIn};
 ghost use Rattle.shortcut.specs.Shortcut.{FastOk};
-ghost use Rattle.shortcut.specs.Forms.{registerFast, accumulatorFast, countFast, jumpFast, pushFast, popFast, operationOf};
+ghost use Rattle.shortcut.specs.Forms.{combines, registerFast, accumulatorFast, countFast, jumpFast, pushFast, popFast, operationOf};
 use alu::brief::Brief;
 use outcome::Fast;
 
@@ -162,30 +162,25 @@ fn shift(mem: &[u8], e: &[u32], eip: u32, i: usize, b: u32, m: u32) -> Fast
     modrm::by_places(mem, e, eip, i, b, m)
 }
 
-// The operation of a class: ADD to CMP by the opcode, TEST, MOV.
+// The operation of two operands with ModRM: ADD to CMP, then TEST and MOV, as their opcodes have it.
 fn operation(c: u32, b: u32) -> u32
+    requires { ⌜ (b < 256) × ((c ≡ classOf b) × (combines c ≡ true)) ⌝ }
     ensures { λ r. ⌜ r ≡ operationOf c b ⌝ }
 {
-    if c <= 5 {
-        return b / 8 % 8;
-    }
-    if c == 8 {
-        return 8;
-    }
-    9
+    b / 8 - b / 128 * 8
 }
 
 // The operand by an immediate: ADD to CMP by the reg field, or MOV. All of them are here, so that the compiler draws the form in.
-fn numbered(mem: &[u8], e: &[u32], eip: u32, i: usize, b: u32, m: u32) -> Fast
-    requires { ⌜ (i + 16 ≤ length (now mem)) × ((b ≡ at (now mem) i) × (m ≡ at (now mem) (i + 1))) ⌝ }
+fn numbered(mem: &[u8], e: &[u32], eip: u32, i: usize, c: u32, b: u32, m: u32) -> Fast
+    requires { ⌜ (i + 16 ≤ length (now mem)) × ((b ≡ at (now mem) i) × ((m ≡ at (now mem) (i + 1)) × ((b < 256) × ((c ≡ classOf b) × ((eqb c 7 || eqb c 16) ≡ true))))) ⌝ }
     ensures { λ r. ⌜ ((s : Status) → FastOk (now (mem .entry)) (now (e .entry)) s eip i r) ⌝ }
 {
-    let group = b / 4 == 32;
-    if !(group | ((b / 2 == 99) & (m / 8 % 8 == 0))) {
+    let group = c == 7;
+    if !(group | (m / 8 % 8 == 0)) {
         return none();
     }
     let op = modrm::either(group, m / 8 % 8, 9);
-    modrm::by_number(mem, e, eip, i, op, (b == 0x81) | (b == 0xc7), b, m)
+    modrm::by_number(mem, e, eip, i, op, (b % 2 == 1) & (b != 0x83), b, m)
 }
 
 // Shifts, products, jumps and calls, by their opcodes.
@@ -248,7 +243,7 @@ fn push_number(mem: &[u8], e: &[u32], eip: u32, i: usize, b: u32) -> Fast
 
 // Opcodes without ModRM, by their class.
 fn plain(mem: &[u8], e: &[u32], s: Brief, eip: u32, i: usize, c: u32, b: u32, m: u32) -> Fast
-    requires { ⌜ (i + 16 ≤ length (now mem)) × ((b ≡ at (now mem) i) × ((m ≡ at (now mem) (i + 1)) × ((m < 256) × (c ≡ classOf b)))) ⌝ }
+    requires { ⌜ (i + 16 ≤ length (now mem)) × ((b ≡ at (now mem) i) × ((m ≡ at (now mem) (i + 1)) × ((m < 256) × ((b < 256) × (c ≡ classOf b))))) ⌝ }
     ensures { λ r. ⌜ FastOk (now (mem .entry)) (now (e .entry)) (statusIn s) eip i r ⌝ }
 {
     match c {
@@ -264,12 +259,7 @@ fn plain(mem: &[u8], e: &[u32], s: Brief, eip: u32, i: usize, c: u32, b: u32, m:
         ),
         27 => push_number(mem, e, eip, i, b),
         28 => pop(e, 5, b % 8, std::num::wrapping_add_u32(eip, 1)),
-        36 => {
-            if b / 16 != 7 {
-                return none();
-            }
-            jump_if(s, eip, b, m)
-        }
+        36 => { jump_if(s, eip, b, m) }
         41 => pop(e, 6, 8, std::num::wrapping_add_u32(eip, 1)),
         _ => by_opcode(mem, e, eip, i, b, m),
     }
@@ -290,7 +280,7 @@ pub fn quick(mem: &[u8], t: &[u8; 512], e: &[u32], s: Brief, eip: u32, i: usize)
         return modrm::from_operand(mem, e, eip, i, operation(c, b), b, m);
     }
     if (c == 7) | (c == 16) {
-        return numbered(mem, e, eip, i, b, m);
+        return numbered(mem, e, eip, i, c, b, m);
     }
     if c == 19 {
         if 192 <= m {
