@@ -1,33 +1,22 @@
 use Rattle.shortcut.proofs.Taken.{not-taken, taken-number}
 use borrow.Author.Needs.{needs}
-use borrow.Author.Tests.{lt-ltb, le-ltb, le-leb, lt-leb, eq-eqb, ne-eqb, not-true, not-false, ltb-true}
-use native.Mathlib.Omega.{arith}
-use mathlib.Core.Path.{_≡_, refl, sym, ap, _∙_}
+use borrow.Author.Tests.{not-false}
+use mathlib.Core.Path.{refl}
 use Rattle.shortcut.proofs.numbered.Statement.{statement}
 use Rattle.shortcut.proofs.numbered.Tie as tie
-use Rattle.shortcut.proofs.numbered.Reads as reads
-use Rattle.shortcut.proofs.numbered.Lts as lts
-use Rattle.shortcut.proofs.modrm.by_number.Reads as by-number-reads
-use Rattle.shortcut.proofs.modrm.either.Reads as either-reads
-use Rattle.shortcut.proofs.none.Reads as none-reads
 
--- src/lib.rt:180:9
 none-requires : tie.Need-none-requires
 none-requires c κs = search needs
 
--- src/lib.rt:180:9
 returns : tie.Need-returns
 returns c = λ s. not-taken ((c .before .before .before .before .args .mem .now)) ((c .before .before .before .before .args .e .now)) s ((c .before .before .before .before .args .eip)) ((c .before .before .before .before .args .i)) _ ((c .none .ensures))
 
--- src/lib.rt:182:9
 either-requires : tie.Need-either-requires
 either-requires c κs = search needs
 
--- src/lib.rt:183:5
 by-number-requires : tie.Need-by-number-requires
 by-number-requires c κs = search needs
 
--- src/lib.rt:174:1
 returns-2 : tie.Need-returns-2
 returns-2 c = λ s. taken-number ((c .before .before .before .before .before .args .mem .now)) ((c .before .before .before .before .before .args .e .now)) s ((c .before .before .before .before .before .args .eip)) ((c .before .before .before .before .before .args .i)) _ _ _ ((c .before .before .before .before .before .pre .1 .0)) ((c .before .before .before .before .before .pre .1 .1 .0)) ((c .before .before .before .before .before .pre .1 .1 .1 .1 .0)) _ ((c .before .before .before .before .before .pre .1 .1 .1 .0)) ((c .before .before .before .before .before .pre .1 .1 .1 .1 .1)) _ _ (not-false _ ((c .before .before .if1 .left))) ((c .before .either .ensures)) refl ((c .by-number .ensures))
 

@@ -1,125 +1,84 @@
 use Rattle.shortcut.proofs.Taken.{taken-accumulator, taken-test, taken-load, taken-inc, taken-dec, taken-push, taken-pop, taken-return, taken-jump}
 use Rattle.alu.specs.Brief.{statusIn}
 use borrow.Author.Needs.{needs}
-use borrow.Author.Tests.{lt-ltb, le-ltb, le-leb, lt-leb, eq-eqb, ne-eqb, not-true, not-false, ltb-true}
-use native.Mathlib.Omega.{arith}
-use mathlib.Core.Path.{_≡_, refl, sym, ap, _∙_}
 use Rattle.shortcut.proofs.plain.Statement.{statement}
 use Rattle.shortcut.proofs.plain.Tie as tie
-use Rattle.shortcut.proofs.plain.Reads as reads
-use Rattle.shortcut.proofs.plain.Lts as lts
-use Rattle.outcome.proofs.register.Reads as register-reads
-use Rattle.shortcut.proofs.by_opcode.Reads as by-opcode-reads
-use Rattle.shortcut.proofs.count.Reads as count-reads
-use Rattle.shortcut.proofs.jump_if.Reads as jump-if-reads
-use Rattle.shortcut.proofs.on_accumulator.Reads as on-accumulator-reads
-use Rattle.shortcut.proofs.on_register.Reads as on-register-reads
-use Rattle.shortcut.proofs.pop.Reads as pop-reads
-use Rattle.shortcut.proofs.push.Reads as push-reads
-use Rattle.shortcut.proofs.push_number.Reads as push-number-reads
-use Rattle.std.proofs.num.wrapping_add_u32.Reads as wrapping-add-u32-reads
 
--- src/lib.rt:250:14
 on-accumulator-requires : tie.Need-on-accumulator-requires
 on-accumulator-requires c κs = search needs
 
--- src/lib.rt:251:14
 on-accumulator-requires-2 : tie.Need-on-accumulator-requires-2
 on-accumulator-requires-2 c κs = search needs
 
--- src/lib.rt:252:15
 on-register-requires : tie.Need-on-register-requires
 on-register-requires c κs = search needs
 
--- src/lib.rt:253:15
 count-requires : tie.Need-count-requires
 count-requires c κs = search needs
 
--- src/lib.rt:254:15
 count-requires-2 : tie.Need-count-requires-2
 count-requires-2 c κs = search needs
 
--- src/lib.rt:257:13
 register-requires : tie.Need-register-requires
 register-requires c κs = search needs
 
--- src/lib.rt:258:13
 wrapping-add-u32-requires : tie.Need-wrapping-add-u32-requires
 wrapping-add-u32-requires c κs = search needs
 
--- src/lib.rt:255:15
 push-requires : tie.Need-push-requires
 push-requires c κs = search needs
 
--- src/lib.rt:260:15
 push-number-requires : tie.Need-push-number-requires
 push-number-requires c κs = search needs
 
--- src/lib.rt:261:32
 wrapping-add-u32-requires-2 : tie.Need-wrapping-add-u32-requires-2
 wrapping-add-u32-requires-2 c κs = search needs
 
--- src/lib.rt:261:15
 pop-requires : tie.Need-pop-requires
 pop-requires c κs = search needs
 
--- src/lib.rt:262:17
 jump-if-requires : tie.Need-jump-if-requires
 jump-if-requires c κs = search needs
 
--- src/lib.rt:263:28
 wrapping-add-u32-requires-3 : tie.Need-wrapping-add-u32-requires-3
 wrapping-add-u32-requires-3 c κs = search needs
 
--- src/lib.rt:263:15
 pop-requires-2 : tie.Need-pop-requires-2
 pop-requires-2 c κs = search needs
 
--- src/lib.rt:264:14
 by-opcode-requires : tie.Need-by-opcode-requires
 by-opcode-requires c κs = search needs
 
--- src/lib.rt:245:1
 returns : tie.Need-returns
 returns c = taken-accumulator ((c .before .before .before .before .args .mem .now)) ((c .before .before .before .before .args .e .now)) (statusIn ((c .before .before .before .before .args .s))) ((c .before .before .before .before .args .eip)) ((c .before .before .before .before .args .i)) _ _ _ ((c .before .before .before .before .pre .1 .0)) ((c .before .before .before .before .pre .1 .1 .0)) ((c .before .before .before .before .pre .1 .1 .1 .1 .1)) _ ((c .before .match .keys1)) ((c .on-accumulator .ensures))
 
--- src/lib.rt:245:1
 returns-2 : tie.Need-returns-2
 returns-2 c = taken-test ((c .before .before .before .before .args .mem .now)) ((c .before .before .before .before .args .e .now)) (statusIn ((c .before .before .before .before .args .s))) ((c .before .before .before .before .args .eip)) ((c .before .before .before .before .args .i)) _ _ _ ((c .before .before .before .before .pre .1 .0)) ((c .before .before .before .before .pre .1 .1 .0)) ((c .before .before .before .before .pre .1 .1 .1 .1 .1)) _ ((c .before .match .keys2)) ((c .on-accumulator2 .ensures))
 
--- src/lib.rt:245:1
 returns-3 : tie.Need-returns-3
 returns-3 c = taken-load ((c .before .before .before .before .args .mem .now)) ((c .before .before .before .before .args .e .now)) (statusIn ((c .before .before .before .before .args .s))) ((c .before .before .before .before .args .eip)) ((c .before .before .before .before .args .i)) _ _ _ ((c .before .before .before .before .pre .1 .0)) ((c .before .before .before .before .pre .1 .1 .0)) ((c .before .before .before .before .pre .1 .1 .1 .1 .1)) _ ((c .before .match .keys3)) ((c .on-register .ensures))
 
--- src/lib.rt:245:1
 returns-4 : tie.Need-returns-4
 returns-4 c = taken-inc ((c .before .before .before .before .args .mem .now)) ((c .before .before .before .before .args .e .now)) (statusIn ((c .before .before .before .before .args .s))) ((c .before .before .before .before .args .eip)) ((c .before .before .before .before .args .i)) _ _ _ ((c .before .before .before .before .pre .1 .0)) ((c .before .before .before .before .pre .1 .1 .0)) ((c .before .before .before .before .pre .1 .1 .1 .1 .1)) _ ((c .before .match .keys4)) ((c .count .ensures))
 
--- src/lib.rt:245:1
 returns-5 : tie.Need-returns-5
 returns-5 c = taken-dec ((c .before .before .before .before .args .mem .now)) ((c .before .before .before .before .args .e .now)) (statusIn ((c .before .before .before .before .args .s))) ((c .before .before .before .before .args .eip)) ((c .before .before .before .before .args .i)) _ _ _ ((c .before .before .before .before .pre .1 .0)) ((c .before .before .before .before .pre .1 .1 .0)) ((c .before .before .before .before .pre .1 .1 .1 .1 .1)) _ ((c .before .match .keys5)) ((c .count2 .ensures))
 
--- src/lib.rt:245:1
 returns-6 : tie.Need-returns-6
 returns-6 c = taken-push ((c .before .before .before .before .before .before .args .mem .now)) ((c .before .before .before .before .before .before .args .e .now)) (statusIn ((c .before .before .before .before .before .before .args .s))) ((c .before .before .before .before .before .before .args .eip)) ((c .before .before .before .before .before .before .args .i)) _ _ _ ((c .before .before .before .before .before .before .pre .1 .0)) ((c .before .before .before .before .before .before .pre .1 .1 .0)) ((c .before .before .before .before .before .before .pre .1 .1 .1 .1 .1)) _ _ _ ((c .before .before .before .match .keys6)) (search needs) ((c .before .before .register .ensures)) ((c .before .wrapping-add-u32 .ensures)) ((c .push .ensures))
 
--- src/lib.rt:245:1
 returns-7 : tie.Need-returns-7
 returns-7 c = ((c .push-number .ensures)) (statusIn ((c .before .before .before .before .args .s)))
 
--- src/lib.rt:245:1
 returns-8 : tie.Need-returns-8
 returns-8 c = taken-pop ((c .before .before .before .before .before .args .mem .now)) ((c .before .before .before .before .before .args .e .now)) (statusIn ((c .before .before .before .before .before .args .s))) ((c .before .before .before .before .before .args .eip)) ((c .before .before .before .before .before .args .i)) _ _ _ ((c .before .before .before .before .before .pre .1 .0)) ((c .before .before .before .before .before .pre .1 .1 .0)) ((c .before .before .before .before .before .pre .1 .1 .1 .1 .1)) _ _ ((c .before .before .match .keys8)) ((c .before .wrapping-add-u322 .ensures)) ((c .pop .ensures))
 
--- src/lib.rt:245:1
 returns-9 : tie.Need-returns-9
 returns-9 c = taken-jump ((c .before .before .before .before .args .mem .now)) ((c .before .before .before .before .args .e .now)) (statusIn ((c .before .before .before .before .args .s))) ((c .before .before .before .before .args .eip)) ((c .before .before .before .before .args .i)) _ _ _ ((c .before .before .before .before .pre .1 .0)) ((c .before .before .before .before .pre .1 .1 .0)) ((c .before .before .before .before .pre .1 .1 .1 .1 .1)) _ ((c .before .match .keys9)) ((c .before .before .before .before .pre .1 .1 .1 .1 .0)) ((c .jump-if .ensures))
 
--- src/lib.rt:245:1
 returns-10 : tie.Need-returns-10
 returns-10 c = taken-return ((c .before .before .before .before .before .args .mem .now)) ((c .before .before .before .before .before .args .e .now)) (statusIn ((c .before .before .before .before .before .args .s))) ((c .before .before .before .before .before .args .eip)) ((c .before .before .before .before .before .args .i)) _ _ _ ((c .before .before .before .before .before .pre .1 .0)) ((c .before .before .before .before .before .pre .1 .1 .0)) ((c .before .before .before .before .before .pre .1 .1 .1 .1 .1)) _ _ ((c .before .before .match .keys10)) ((c .before .wrapping-add-u323 .ensures)) ((c .pop2 .ensures))
 
--- src/lib.rt:245:1
 returns-11 : tie.Need-returns-11
 returns-11 c = ((c .by-opcode .ensures)) (statusIn ((c .before .before .before .before .args .s)))
 
