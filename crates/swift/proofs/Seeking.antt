@@ -28,6 +28,7 @@ use Rattle.access.specs.Located.{asked, trailMarks, placed, puts, nowhere, Held
 use Rattle.access.proofs.Laws.{nothing-held, near-held, byte-held}
 use Rattle.outcome.specs.declared.Fast.{Fast}
 use Rattle.outcome.specs.Outcome.{asks, wantFirst, wantSecond, stores, leftOf, rightOf}
+use Rattle.shortcut.proofs.Small.{or-left, or-right}
 use Rattle.swift.specs.declared.Sought.{Sought}
 use Rattle.phases.specs.Planned.{accessMarks}
 use Rattle.swift.specs.Swift.{spotted, saved, Holds, Reaches, Spared, PagesOk}
@@ -144,17 +145,17 @@ put-byte m p i v h = rw h
 
 -- ---- kept pages, after a store in another frame
 
-or-false : (a b : Bool) → a || b ≡ false → (a ≡ false) × (b ≡ false)
-or-false false b e = (refl, e)
-or-false true b e = absurd (false≢true (sym e))
-
 apart-four : (x y t d : ℕ) → (eqb x t || eqb y t || eqb x d || eqb y d) ≡ false
     → (x ≡ t → ⊥) × ((y ≡ t → ⊥) × ((x ≡ d → ⊥) × (y ≡ d → ⊥)))
 apart-four x y t d e =
-    let e3 = or-false (eqb x t || eqb y t || eqb x d) (eqb y d) e in
-    let e2 = or-false (eqb x t || eqb y t) (eqb x d) (e3 .0) in
-    let e1 = or-false (eqb x t) (eqb y t) (e2 .0) in
-    (eqb-false _ _ (e1 .0), (eqb-false _ _ (e1 .1), (eqb-false _ _ (e2 .1), eqb-false _ _ (e3 .1))))
+    let three = or-left (eqb x t || eqb y t || eqb x d) (eqb y d) e in
+    let two = or-left (eqb x t || eqb y t) (eqb x d) three in (
+      eqb-false _ _ (or-left (eqb x t) (eqb y t) two),
+      (
+        eqb-false _ _ (or-right (eqb x t) (eqb y t) two),
+        (eqb-false _ _ (or-right (eqb x t || eqb y t) (eqb x d) three), eqb-false _ _ (or-right (eqb x t || eqb y t || eqb x d) (eqb y d) e)),
+      ),
+    )
 
 -- nothing but four bytes from i on is changed
 module _ (m : Mem) (i v : ℕ) where

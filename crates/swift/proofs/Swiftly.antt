@@ -272,8 +272,8 @@ module _ (m : Mem) (e : List ℕ) (c : Control) (r : Rest) (h : Kept) (d′ : Li
         → {e′ : List ℕ} {o : Out} → o ≡ resultOf p (q .value) (statusIn (r .flags)) → e′ ≡ depositOf p (file e) (o .value) .e
         → r′ .eip ≡ p .next → statusIn (r′ .flags) ≡ o .status → PagesOk m c h d′ → SwiftOk m e c r h m e′ d′ (record { done = true; holds = true; rest = r′ })
     few-hopped q taken found few k {o = o} eo ee ei es kept′ =
-        hopped true q taken found few eo (sym (few-saved p k (q .at) (o .value) m))
-        (ee ∙ ap (λ (x : Registers). depositOf p x (o .value) .e) (sym (few-stacked p k (file e)))) (ei ∙ sym (few-next p k (q .value))) es (λ _. kept′)
+        let l = few-left m e c (h .table) p q o r′ k ee ei es in
+        hopped true q taken found few eo (l .memory) (l .registers) (l .onward) (l .flags) (λ _. kept′)
 
     -- an end of the code's
     pub landed : (q : Sought) → p .taken ≡ true → Reaches m c p q → q .value < 4294967296 → {m′ : Mem} {e′ : List ℕ} {w : Swift} {o : Out}
