@@ -12,7 +12,8 @@ use lib.Seq.{getD-set-same, getD-set-other, set-getD, set-out}
 use Rattle.machine.specs.declared.Control.{Control}
 use Rattle.machine.specs.Record.{Mem}
 use Rattle.keptpages.specs.declared.Kept.{Kept}
-use Rattle.keptpages.specs.Quiet.{Quiet, KeptOk, HeldOk, entryIn, pageIn}
+use Rattle.keptpages.specs.declared.Settled.{Settled}
+use Rattle.keptpages.specs.Quiet.{Quiet, SettledOk, KeptOk, HeldOk, entryIn, pageIn}
 use Rattle.keptpages.proofs.Settling.{no-page-ok}
 
 -- ---- a byte of a kept page
@@ -88,3 +89,7 @@ cleared-on d i h l k s = by (ℕ-discrete k i)
     by : Dec (k ≡ i) → entryIn (set d i 18446744073709551615) k ≡ 18446744073709551615
     by (yes e) = rw e (getD-set-same d i 18446744073709551615 18446744073709551615 l)
     by (no e) = getD-set-other d i k 18446744073709551615 18446744073709551615 e ∙ h k (omega arith)
+
+-- what is known of a page, by the answer at hand
+pub settled-as : (m : Mem) (c : Control) (w : Bool) (l : ℕ) {q r : Settled} → q ≡ r → SettledOk m c w l q → SettledOk m c w l r
+settled-as m c w l e h = rw e at h

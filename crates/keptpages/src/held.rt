@@ -81,22 +81,32 @@ fn look(mem: &[u8], c: Control, d: &mut [u64], table: u32, w: bool, l: u32, k: u
     on(p, l)
 }
 
-// Where the byte at l lies, if it may be used and its page is marked already; w: is it a write.
+// Where the byte at l lies, if its page is kept; w: is it a write.
+pub fn peek(d: &[u64], table: u32, w: bool, l: u32) -> Settled
+    ensures { λ r. ⌜ ((m : Mem) (c : Control) → HeldOk m c table (now (d .entry)) → SettledOk m c w l r) ⌝ }
+{
+    let x = entry(d, slot(w, l));
+    if x / 4294967296 != (l / 4096) as u64 {
+        return Settled::Other;
+    }
+    on(
+        Kept {
+            page: l / 4096,
+            base: (x % 4294967296) as u32,
+            table,
+        },
+        l,
+    )
+}
+
+// Where the byte at l lies, if it may be used and its page is marked already.
 pub fn find(mem: &[u8], c: Control, d: &mut [u64], table: u32, w: bool, l: u32) -> Settled
     requires { ⌜ HeldOk (now mem) c table (now d) ⌝ }
     ensures { λ r. ⌜ (SettledOk (now (mem .entry)) c w l r) × (HeldOk (now (mem .entry)) c table (now (d .exit))) ⌝ }
 {
-    let k = slot(w, l);
-    let x = entry(d, k);
-    if x / 4294967296 == (l / 4096) as u64 {
-        return on(
-            Kept {
-                page: l / 4096,
-                base: (x % 4294967296) as u32,
-                table,
-            },
-            l,
-        );
+    let q = peek(d, table, w, l);
+    if let Settled::Ready(i) = q {
+        return Settled::Ready(i);
     }
-    look(mem, c, d, table, w, l, k)
+    look(mem, c, d, table, w, l, slot(w, l))
 }

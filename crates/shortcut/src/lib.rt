@@ -1,6 +1,6 @@
 // The common encodings in a short form, read straight from memory. Whatever is not here is not taken, and goes the whole way.
-mod bytes;
-mod condition;
+pub mod bytes;
+pub mod condition;
 mod modrm;
 
 ghost use mathlib.Core.Path.{_≡_};
