@@ -1,0 +1,4 @@
+mod Numbers
+mod Keys
+mod Tables
+mod Building
