@@ -11,7 +11,8 @@ use Rattle.machine.specs.Run.{Outcome, End, step, steps, run}
 use Rattle.isolation.proofs.Kept.{run-sound}
 use Rattle.isolation.proofs.Ring3.{step-sound}
 use Rattle.phases.specs.Step.{micro32}
-use Rattle.swift.specs.Swift.{after, DashOk}
+use Rattle.hops.specs.Hops.{after}
+use Rattle.swift.specs.Swift.{DashOk}
 
 -- ---- its beginning, and its end at the budget
 

@@ -1,8 +1,12 @@
 // Micro32: step, run and audit, and the last two for a host in C or Rust. No caller checks anything first.
 ghost use mathlib.Core.Path.{_≡_};
+ghost use mathlib.Core.Bool.{true};
 ghost use Rattle.machine.specs.Replies.{numbered};
 ghost use Rattle.machine.specs.Audit.{audit};
+ghost use Rattle.machine.specs.Record.{sound};
 ghost use Rattle.machine.specs.Run.{step, run};
+ghost use Rattle.encoding.specs.Encodings.{Classed};
+ghost use Rattle.blocks.specs.Blocks.{Known};
 ghost use Rattle.phases.specs.Step.{micro32};
 ghost use Rattle.micro32.specs.Told.{telling, told, runTelling, runTold};
 ghost use Rattle.micro32.specs.Boundary.{answerOf, ranAnswered};
@@ -41,22 +45,15 @@ pub fn step(c: Cpu, mem: &mut [u8]) -> Stepped
     phases::advance(c, mem, &t)
 }
 
-// Steps until the budget is used or a reply isn't Done: quick ones as long as there are, then a complete one.
-pub fn run(c: Cpu, mem: &mut [u8], budget: u32) -> Ran
+// Steps until the budget is used or a reply isn't Done: quick ones as long as there are, then a complete one. The blocks that were read are kept in g.
+fn run_on(c: Cpu, mem: &mut [u8], t: &[u8; 512], g: &mut [u64; 4096], budget: u32) -> Ran
+    requires { ⌜ (Classed (now t)) × ((Known (now g)) × (sound (now mem) c ≡ true)) ⌝ }
     ensures { λ r. ⌜ runTelling (r .count) (r .reply) (r .cpu) (now (mem .exit)) ≡ runTold (run micro32 budget (now (mem .entry)) c) ⌝ }
 {
-    if !machine::sound(mem.len(), c) {
-        return Ran {
-            count: 0,
-            reply: Reply::BadRecord,
-            cpu: c,
-        };
-    }
-    let t = encoding::classes();
     let mut n: u32 = 0;
     let mut d = c;
     while n < budget {
-        let w = swift::dash(d, mem, &t, budget - n);
+        let w = swift::dash(d, mem, t, g, budget - n);
         let here = w.cpu;
         d = here;
         n += w.count;
@@ -67,7 +64,7 @@ pub fn run(c: Cpu, mem: &mut [u8], budget: u32) -> Ran
                 cpu: d,
             };
         }
-        let s = phases::advance(d, mem, &t);
+        let s = phases::advance(d, mem, t);
         let k = s.reply;
         let e = s.cpu;
         d = e;
@@ -85,6 +82,22 @@ pub fn run(c: Cpu, mem: &mut [u8], budget: u32) -> Ran
         reply: Reply::Spent,
         cpu: d,
     }
+}
+
+// Steps until the budget is used or a reply isn't Done.
+pub fn run(c: Cpu, mem: &mut [u8], budget: u32) -> Ran
+    ensures { λ r. ⌜ runTelling (r .count) (r .reply) (r .cpu) (now (mem .exit)) ≡ runTold (run micro32 budget (now (mem .entry)) c) ⌝ }
+{
+    if !machine::sound(mem.len(), c) {
+        return Ran {
+            count: 0,
+            reply: Reply::BadRecord,
+            cpu: c,
+        };
+    }
+    let t = encoding::classes();
+    let mut g: [u64; 4096] = [0; 4096];
+    run_on(c, mem, &t, &mut g, budget)
 }
 
 // Do the maps keep the user away from the directory and the tables? It reads CR3 whatever PG says, and changes nothing.

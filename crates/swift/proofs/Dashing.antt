@@ -11,10 +11,11 @@ use Rattle.machine.specs.Run.{steps}
 use Rattle.alu.specs.Brief.{statusIn}
 use Rattle.shortcut.specs.Shortcut.{coreFrom}
 use Rattle.phases.specs.Step.{micro32}
-use Rattle.swift.specs.declared.Rest.{Rest}
-use Rattle.swift.specs.Swift.{current, after, RushOk, DashOk}
-use Rattle.swift.proofs.Onward.{no-steps}
-use Rattle.swift.proofs.Packed.{record-back}
+use Rattle.hops.specs.declared.Rest.{Rest}
+use Rattle.hops.specs.Hops.{current, after, RushOk}
+use Rattle.swift.specs.Swift.{DashOk}
+use Rattle.hops.proofs.Onward.{no-steps}
+use Rattle.hops.proofs.Packed.{record-back}
 
 -- ---- a record taken apart is the record
 

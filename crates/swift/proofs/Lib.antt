@@ -1,6 +1,2 @@
-mod Packed
-mod Seeking
-mod Swiftly
-pub mod Onward
-mod Rushing
 mod Dashing
+mod Hurrying

@@ -1,54 +1,24 @@
-// The quick way through a run: instructions in their short form, on pages that are kept. Where it cannot go on it changes nothing, and the
-// complete step takes over.
-ghost use mathlib.Core.Logic.{_≢_};
+// The quick way through a run: quick steps one after another, on pages that are kept. Where it cannot go on it changes nothing, and the complete step
+// takes over.
 ghost use mathlib.Core.Path.{_≡_};
-ghost use mathlib.Core.Bool.{true, false, cond};
-ghost use Prim.Native.Nat.{_+_, _-_, _*_, _/_, _%_, _<_, _≤_};
-ghost use lib.ListN.{length, set};
-ghost use lib.Dec.{eqb};
-ghost use Rattle.alu.specs.Brief.{statusIn, outIn, tellable};
-ghost use Rattle.machine.specs.Record.{at, flagsIn};
-ghost use Rattle.machine.specs.Paging.{dwordAt};
-ghost use Rattle.machine.specs.Commit.{patches};
+ghost use mathlib.Core.Bool.{true, false};
+ghost use Prim.Native.Nat.{_%_, _≤_};
+ghost use lib.ListN.{length};
+ghost use Rattle.alu.specs.Brief.{statusIn, tellable};
+ghost use Rattle.machine.specs.Record.{flagsIn};
 ghost use Rattle.encoding.specs.Encodings.{Classed};
 ghost use Rattle.keptpages.specs.Quiet.{HeldOk};
-ghost use Rattle.access.specs.Located.{placed};
-ghost use Rattle.outcome.specs.Outcome.{outOf, nextOf};
-ghost use Rattle.shortcut.specs.Shortcut.{Tidy};
-ghost use Rattle.swift.specs.Swift.{saved, spotted, Holds, Reaches, Spared, Left, PagesOk, current, SwiftOk, RushOk, DashOk};
+ghost use Rattle.blocks.specs.Blocks.{Known};
+ghost use Rattle.hops.specs.Hops.{PagesOk, current, RushOk};
+ghost use Rattle.swift.specs.Swift.{DashOk};
 use alu::Status;
-use alu::brief::Brief;
-use alu::brief::Short;
+use hops::Rest;
 use keptpages::Kept;
-use keptpages::Settled;
 use machine::Control;
 use machine::Core;
 use machine::Cpu;
 use machine::Flags;
 use machine::Registers;
-use outcome::Fast;
-
-// EIP and the status flags.
-struct Rest {
-    eip: u32,
-    flags: Brief,
-}
-
-// What a quick step answers: is it done, do the pages that are kept hold on, and where the run stands.
-struct Swift {
-    done: bool,
-    holds: bool,
-    rest: Rest,
-}
-
-// The access of an instruction: is it found; the index in memory and the value there; both operands.
-struct Sought {
-    found: bool,
-    at: usize,
-    value: u32,
-    x: u32,
-    y: u32,
-}
 
 // How many quick steps there were, and where the run stands.
 struct Rushed {
@@ -73,268 +43,6 @@ fn apart(k: Kept) -> Kept
     }
 }
 
-fn unsought() -> Sought
-    ensures { λ r. ⌜ (r .found ≡ false) × (r .at < 4294967296) ⌝ }
-{
-    Sought {
-        found: false,
-        at: 0,
-        value: 0,
-        x: 0,
-        y: 0,
-    }
-}
-
-fn load(mem: &[u8], w: bool, i: u32) -> u32
-    ensures { λ r. ⌜ r ≡ cond w (dwordAt (now (mem .entry)) i) (at (now (mem .entry)) i) ⌝ }
-{
-    if w {
-        return paging::dword(mem, i as usize);
-    }
-    paging::byte_at(mem, i as usize)
-}
-
-fn either(c: bool, a: u32, b: u32) -> u32
-    ensures { λ r. ⌜ r ≡ cond c a b ⌝ }
-{
-    if c { a } else { b }
-}
-
-// Reads what the instruction asks for at i; a push asks for nothing.
-fn loaded(mem: &[u8], p: Fast, i: u32) -> Sought
-    requires { ⌜ p .access ≢ 0 ⌝ }
-    ensures { λ r. ⌜ (r .found ≡ true) × ((r .at < 4294967296) × ((r .at ≡ i) × (Holds p (cond (p .wide) (dwordAt (now (mem .entry)) i) (at (now (mem .entry)) i)) r))) ⌝ }
-{
-    if p.access == 4 {
-        return Sought {
-            found: true,
-            at: i as usize,
-            value: 0,
-            x: p.x,
-            y: p.y,
-        };
-    }
-    let v = load(mem, p.wide, i);
-    Sought {
-        found: true,
-        at: i as usize,
-        value: v,
-        x: either((p.access == 1) | (p.access == 3), v, p.x),
-        y: either((p.access == 1) | (p.access == 3), p.y, v),
-    }
-}
-
-// Finds the access; memory is only read.
-fn seek(mem: &[u8], c: Control, d: &mut [u64], table: u32, p: Fast) -> Sought
-    requires { ⌜ (length (now mem) % 4096 ≡ 0) × (HeldOk (now mem) c table (now d)) ⌝ }
-    ensures { λ r. ⌜ (r .at < 4294967296) × ((r .value < 4294967296) × ((r .found ≡ true → Reaches (now (mem .entry)) c p r) × (HeldOk (now (mem .entry)) c table (now (d .exit))))) ⌝ }
-{
-    if p.access == 0 {
-        return Sought {
-            found: true,
-            at: 0,
-            value: 0,
-            x: p.x,
-            y: p.y,
-        };
-    }
-    if p.wide & (4092 < p.at % 4096) {
-        return unsought();
-    }
-    let q = keptpages::held::find(mem, c, d, table, (p.access == 3) | (p.access == 4), p.at);
-    let Settled::Ready(i) = q else {
-        return unsought();
-    };
-    loaded(mem, p, i)
-}
-
-fn put(mem: &mut [u8], i: usize, b: u8)
-    ensures { λ r. ⌜ now (mem .exit) ≡ set (now (mem .entry)) i b ⌝ }
-{
-    if i < mem.len() {
-        mem[i] = b;
-    }
-}
-
-fn put_dword(mem: &mut [u8], i: usize, v: u32)
-    requires { ⌜ i < 4294967296 ⌝ }
-    ensures { λ r. ⌜ now (mem .exit) ≡ set (set (set (set (now (mem .entry)) i (v % 256)) (i + 1) (v / 256 % 256)) (i + 2) (v / 65536 % 256)) (i + 3) (v / 16777216 % 256) ⌝ }
-{
-    if i + 3 < mem.len() {
-        mem[i] = (v % 256) as u8;
-        mem[i + 1] = (v / 256 % 256) as u8;
-        mem[i + 2] = (v / 65536 % 256) as u8;
-        mem[i + 3] = (v / 16777216 % 256) as u8;
-        return;
-    }
-    put(mem, i, (v % 256) as u8);
-    put(mem, i + 1, (v / 256 % 256) as u8);
-    put(mem, i + 2, (v / 65536 % 256) as u8);
-    put(mem, i + 3, (v / 16777216 % 256) as u8);
-}
-
-fn store_at(mem: &mut [u8], p: Fast, i: usize, v: u32)
-    requires { ⌜ i < 4294967296 ⌝ }
-    ensures { λ r. ⌜ now (mem .exit) ≡ patches (placed (spotted p i) v) (now (mem .entry)) ⌝ }
-{
-    if p.wide {
-        put_dword(mem, i, v);
-        return;
-    }
-    put(mem, i, (v % 256) as u8);
-}
-
-// Stores the result; answers whether the maps are surely as they were.
-fn store(mem: &mut [u8], c: Control, table: u32, p: Fast, i: usize, v: u32) -> bool
-    requires { ⌜ i < 4294967296 ⌝ }
-    ensures { λ r. ⌜ (now (mem .exit) ≡ patches (placed (spotted p i) v) (now (mem .entry))) × (r ≡ true → Spared (now (mem .entry)) (now (mem .exit)) c table) ⌝ }
-{
-    store_at(mem, p, i, v);
-    let first = (i / 4096) as u32;
-    let last = ((i + 3) / 4096) as u32;
-    let dir = c.cr3 / 4096;
-    !((first == table) | (last == table) | (first == dir) | (last == dir))
-}
-
-// The same where the instruction asks for it.
-fn save(mem: &mut [u8], c: Control, table: u32, p: Fast, i: usize, v: u32) -> bool
-    requires { ⌜ i < 4294967296 ⌝ }
-    ensures { λ r. ⌜ (now (mem .exit) ≡ saved p i v (now (mem .entry))) × (r ≡ true → Spared (now (mem .entry)) (now (mem .exit)) c table) ⌝ }
-{
-    if !((p.access == 3) | (p.access == 4)) {
-        return true;
-    }
-    store(mem, c, table, p, i, v)
-}
-
-fn next(p: Fast, a: u32) -> u32
-    ensures { λ r. ⌜ r ≡ nextOf p a ⌝ }
-{
-    if p.access == 6 { a } else { p.next }
-}
-
-fn unmoved(r: Rest) -> Swift
-    ensures { λ w. ⌜ w ≡ record { done = false; holds = true; rest = r } ⌝ }
-{
-    Swift {
-        done: false,
-        holds: true,
-        rest: r,
-    }
-}
-
-fn moved(eip: u32, flags: Brief, holds: bool) -> Swift
-    ensures { λ w. ⌜ w ≡ record { done = true; holds = holds; rest = record { eip = eip; flags = flags } } ⌝ }
-{
-    Swift {
-        done: true,
-        holds,
-        rest: Rest { eip, flags },
-    }
-}
-
-// The end of a step whose result is o: it goes to a register, or to memory and to none. Only moves use the stack.
-fn settle(
-    mem: &mut [u8],
-    e: &mut [u32],
-    c: Control,
-    table: u32,
-    p: Fast,
-    q: Sought,
-    o: Short,
-) -> Swift
-    requires { ⌜ (q .at < 4294967296) × ((p .access < 4) × (p .access ≡ 3 → p .to ≡ 8)) ⌝ }
-    ensures { λ w. ⌜ Left (now (mem .entry)) (now (e .entry)) c table p q (outIn o) (now (mem .exit)) (now (e .exit)) w ⌝ }
-{
-    let g = o.flags;
-    if p.access < 3 {
-        outcome::deposit(e, p, o.value);
-        return moved(p.next, g, true);
-    }
-    let holds = store(mem, c, table, p, q.at, o.value);
-    moved(p.next, g, holds)
-}
-
-// The end of a step that moves the right operand; the flags stay.
-fn settle_move(
-    mem: &mut [u8],
-    e: &mut [u32],
-    c: Control,
-    table: u32,
-    p: Fast,
-    q: Sought,
-    f: Brief,
-) -> Swift
-    requires { ⌜ q .at < 4294967296 ⌝ }
-    ensures { λ w. ⌜ Left (now (mem .entry)) (now (e .entry)) c table p q (record { value = q .y; status = statusIn f }) (now (mem .exit)) (now (e .exit)) w ⌝ }
-{
-    if p.access < 3 {
-        outcome::deposit(e, p, q.y);
-        return moved(p.next, f, true);
-    }
-    outcome::restack(e, p);
-    outcome::deposit(e, p, q.y);
-    let holds = save(mem, c, table, p, q.at, q.y);
-    moved(next(p, q.value), f, holds)
-}
-
-// The end of a step whose operands are found. Moves of a dword, dwords and bytes each have an end of their own, so that the compiler asks once.
-fn finish(
-    mem: &mut [u8],
-    e: &mut [u32],
-    c: Control,
-    table: u32,
-    p: Fast,
-    q: Sought,
-    f: Brief,
-) -> Swift
-    requires { ⌜ (q .at < 4294967296) × ((Tidy p) × ((q .x < 4294967296) × (q .y < 4294967296))) ⌝ }
-    ensures { λ w. ⌜ Left (now (mem .entry)) (now (e .entry)) c table p q (outOf (p .op) (p .wide) (q .x) (q .y) (statusIn f)) (now (mem .exit)) (now (e .exit)) w ⌝ }
-{
-    if (p.op == 9) & p.wide {
-        return settle_move(mem, e, c, table, p, q, f);
-    }
-    if p.wide {
-        let o = outcome::dwords(p.op, q.x, q.y, f);
-        return settle(mem, e, c, table, p, q, o);
-    }
-    let o = outcome::bytes(p.op, q.x, q.y, f);
-    settle(mem, e, c, table, p, q, o)
-}
-
-// One quick step, on the page h.
-fn hop(
-    mem: &mut [u8],
-    t: &[u8; 512],
-    e: &mut [u32],
-    d: &mut [u64],
-    c: Control,
-    r: Rest,
-    h: Kept,
-) -> Swift
-    requires { ⌜ (length (now mem) % 4096 ≡ 0) × ((Classed (now t)) × ((PagesOk (now mem) c h (now d)) × ((r .eip / 4096 ≡ h .page) × ((r .eip % 4096 ≤ 4080) × (r .eip < 4294967296))))) ⌝ }
-    ensures { λ w. ⌜ SwiftOk (now (mem .entry)) (now (e .entry)) c r h (now (mem .exit)) (now (e .exit)) (now (d .exit)) w ⌝ }
-{
-    let eip = r.eip;
-    let f = r.flags;
-    let p = shortcut::quick(mem, t, e, f, eip, h.base as usize + (eip % 4096) as usize);
-    if !p.taken {
-        if p.doubling {
-            let g = outcome::double(e, p, f);
-            return moved(p.next, g, true);
-        }
-        return unmoved(r);
-    }
-    if p.jumps {
-        return moved(p.next, f, true);
-    }
-    let q = seek(mem, c, d, h.table, p);
-    if !q.found {
-        return unmoved(r);
-    }
-    finish(mem, e, c, h.table, p, q, f)
-}
-
 // The code page of EIP, to be kept. Pages of data whose entries are in another table are dropped, and all where they do not hold on.
 fn turned(mem: &[u8], c: Control, d: &mut [u64], table: u32, holds: bool, eip: u32) -> Kept
     requires { ⌜ (holds ≡ true → HeldOk (now mem) c table (now d)) ⌝ }
@@ -348,37 +56,53 @@ fn turned(mem: &[u8], c: Control, d: &mut [u64], table: u32, holds: bool, eip: u
     apart(k)
 }
 
-// Quick steps, as many as there can be and at most so many.
+// The code page of EIP where h is the one before: the same, as long as it holds on.
+fn page_for(mem: &[u8], c: Control, d: &mut [u64; 32], h: Kept, holds: bool, eip: u32) -> Kept
+    requires { ⌜ (holds ≡ true → PagesOk (now mem) c h (now d)) ⌝ }
+    ensures { λ k. ⌜ PagesOk (now (mem .entry)) c k (now (d .exit)) ⌝ }
+{
+    if holds & (eip / 4096 == h.page) {
+        return h;
+    }
+    turned(mem, c, d, h.table, holds, eip)
+}
+
+// Quick steps, as many as there can be and at most so many: blocks while there are, then one step of its own.
 fn rush(
     mem: &mut [u8],
     t: &[u8; 512],
-    e: &mut [u32],
-    d: &mut [u64],
+    e: &mut [u32; 8],
+    d: &mut [u64; 32],
+    g: &mut [u64; 4096],
     c: Control,
     from: Rest,
     limit: u32,
 ) -> Rushed
-    requires { ⌜ (length (now mem) % 4096 ≡ 0) × (Classed (now t)) ⌝ }
-    ensures { λ w. ⌜ (w .count ≤ limit) × (RushOk (now (mem .entry)) (now (e .entry)) c from (w .count) (now (mem .exit)) (now (e .exit)) (w .rest)) ⌝ }
+    requires { ⌜ (length (now mem) % 4096 ≡ 0) × ((Classed (now t)) × (Known (now g))) ⌝ }
+    ensures { λ w. ⌜ (w .count ≤ limit) × ((RushOk (now (mem .entry)) (now (e .entry)) c from (w .count) (now (mem .exit)) (now (e .exit)) (w .rest)) × (Known (now (g .exit)))) ⌝ }
 {
     let mut n: u32 = 0;
     let mut r = from;
     let mut h = turned(mem, c, d, 0, false, r.eip);
     while n < limit {
-        if !((r.eip / 4096 == h.page) & (r.eip % 4096 <= 4080)) {
+        let w = sprints::sprint(mem, t, e, d, g, c, r, h, limit - n);
+        n += w.count;
+        let here = w.rest;
+        r = here;
+        let k = page_for(mem, c, d, h, w.status != 3, r.eip);
+        h = k;
+        if !((n < limit) & (r.eip / 4096 == h.page) & (r.eip % 4096 <= 4080)) {
             return Rushed { count: n, rest: r };
         }
-        let w = hop(mem, t, e, d, c, r, h);
+        let w = hops::hop(mem, t, e, d, c, r, h);
         let next = w.rest;
         r = next;
         if !w.done {
             return Rushed { count: n, rest: r };
         }
         n += 1;
-        if !w.holds | (r.eip / 4096 != h.page) {
-            let k = turned(mem, c, d, h.table, w.holds, r.eip);
-            h = k;
-        }
+        let k = page_for(mem, c, d, h, w.holds, r.eip);
+        h = k;
     }
     Rushed { count: n, rest: r }
 }
@@ -416,16 +140,23 @@ fn joined(c: Cpu, e: [u32; 8], r: Rest) -> Cpu
 }
 
 // Quick steps from a record on whose flags some dword shows.
-fn dash_on(c: Cpu, mem: &mut [u8], t: &[u8; 512], s: Status, limit: u32) -> Dashed
-    requires { ⌜ (length (now mem) % 4096 ≡ 0) × ((Classed (now t)) × ((tellable s ≡ true) × (s ≡ flagsIn (c .eflags) .status))) ⌝ }
-    ensures { λ w. ⌜ (w .count ≤ limit) × (DashOk (now (mem .entry)) c (w .count) (now (mem .exit)) (w .cpu)) ⌝ }
+fn dash_on(
+    c: Cpu,
+    mem: &mut [u8],
+    t: &[u8; 512],
+    g: &mut [u64; 4096],
+    s: Status,
+    limit: u32,
+) -> Dashed
+    requires { ⌜ (length (now mem) % 4096 ≡ 0) × ((Classed (now t)) × ((Known (now g)) × ((tellable s ≡ true) × (s ≡ flagsIn (c .eflags) .status)))) ⌝ }
+    ensures { λ w. ⌜ (w .count ≤ limit) × ((DashOk (now (mem .entry)) c (w .count) (now (mem .exit)) (w .cpu)) × (Known (now (g .exit)))) ⌝ }
 {
     let k = c.control;
     let file = c.regs;
     let mut e = file.e;
     let mut d: [u64; 32] = [18446744073709551615; 32];
     let from = rest_of(c.eip, s);
-    let w = rush(mem, t, &mut e, &mut d, k, from, limit);
+    let w = rush(mem, t, &mut e, &mut d, g, k, from, limit);
     let r = w.rest;
     let cpu = joined(c, e, r);
     Dashed {
@@ -435,14 +166,14 @@ fn dash_on(c: Cpu, mem: &mut [u8], t: &[u8; 512], s: Status, limit: u32) -> Dash
 }
 
 // Quick steps from a record on, at most so many.
-pub fn dash(c: Cpu, mem: &mut [u8], t: &[u8; 512], limit: u32) -> Dashed
-    requires { ⌜ (length (now mem) % 4096 ≡ 0) × (Classed (now t)) ⌝ }
-    ensures { λ w. ⌜ (w .count ≤ limit) × (DashOk (now (mem .entry)) c (w .count) (now (mem .exit)) (w .cpu)) ⌝ }
+pub fn dash(c: Cpu, mem: &mut [u8], t: &[u8; 512], g: &mut [u64; 4096], limit: u32) -> Dashed
+    requires { ⌜ (length (now mem) % 4096 ≡ 0) × ((Classed (now t)) × (Known (now g))) ⌝ }
+    ensures { λ w. ⌜ (w .count ≤ limit) × ((DashOk (now (mem .entry)) c (w .count) (now (mem .exit)) (w .cpu)) × (Known (now (g .exit)))) ⌝ }
 {
     let u = machine::unpack(c.eflags);
     let s = u.status;
     if !alu::brief::is_tellable(s) {
         return Dashed { count: 0, cpu: c };
     }
-    dash_on(c, mem, t, s, limit)
+    dash_on(c, mem, t, g, s, limit)
 }

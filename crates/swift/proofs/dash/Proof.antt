@@ -1,7 +1,7 @@
-use Rattle.swift.proofs.Dashing.{not-dashed}
-use borrow.Author.Needs.{needs}
 use borrow.Author.Tests.{not-false}
 use mathlib.Core.Path.{sym, ap, _∙_}
+use Rattle.swift.proofs.Dashing.{not-dashed}
+use borrow.Author.Needs.{needs}
 use Rattle.swift.proofs.dash.Statement.{statement}
 use Rattle.swift.proofs.dash.Tie as tie
 
@@ -12,10 +12,10 @@ is-tellable-requires : tie.Need-is-tellable-requires
 is-tellable-requires c κs = search needs
 
 returns : tie.Need-returns
-returns c = (search needs, not-dashed _ _)
+returns c = (search needs, (not-dashed _ _, (c .before .before .before .before .before .pre .1 .1)))
 
 dash-on-requires : tie.Need-dash-on-requires
-dash-on-requires c κs = (((c .before .before .before .before .before .before .pre .0)), (((c .before .before .before .before .before .before .pre .1)), (sym ((c .before .before .is-tellable .ensures)) ∙ not-false _ ((c .before .if1 .left)), ap (λ f. f .status) ((c .before .before .before .before .unpack .ensures)))))
+dash-on-requires c κs = ((c .before .before .before .before .before .before .before .pre .0), ((c .before .before .before .before .before .before .before .pre .1 .0), ((c .before .before .before .before .before .before .before .pre .1 .1), (sym ((c .before .before .before .is-tellable .ensures)) ∙ not-false _ ((c .before .before .if1 .left)), ap (λ f. f .status) ((c .before .before .before .before .before .unpack .ensures))))))
 
 same-length : tie.Need-same-length
 same-length c = search needs

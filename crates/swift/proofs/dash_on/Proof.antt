@@ -1,17 +1,11 @@
+use mathlib.Core.Path.{_∙_}
 use Rattle.swift.proofs.Dashing.{dashed}
 use borrow.Author.Needs.{needs}
-use mathlib.Core.Path.{_∙_}
 use Rattle.swift.proofs.dash_on.Statement.{statement}
 use Rattle.swift.proofs.dash_on.Tie as tie
 
 rest-of-requires : tie.Need-rest-of-requires
 rest-of-requires c κs = search needs
-
-slice-aggregate-rush : tie.Need-slice-aggregate-rush
-slice-aggregate-rush c = search needs
-
-slice-aggregate-rush-2 : tie.Need-slice-aggregate-rush-2
-slice-aggregate-rush-2 c = search needs
 
 rush-requires : tie.Need-rush-requires
 rush-requires c κs = search needs
@@ -23,16 +17,8 @@ same-length : tie.Need-same-length
 same-length c = search needs
 
 returns : tie.Need-returns
-returns c = ((c .before .before .before .before .before .before .rush .ensures .0), dashed _ ((c .before .before .before .before .before .before .before .before .before .before .before .before .before .before .before .args .c)) ((c .before .before .before .before .before .before .before .before .before .before .rest-of .result)) ((c .before .before .before .before .before .before .before .before .before .before .rest-of .ensures .0)) ((c .before .before .before .before .before .before .before .before .before .before .rest-of .ensures .1) ∙ (c .before .before .before .before .before .before .before .before .before .before .before .before .before .before .before .pre .1 .1 .1)) _ _ _ _ ((c .before .before .before .before .before .before .rush .ensures .1)) ((c .joined .ensures)))
+returns c = ((c .before .before .before .before .rush .ensures .0), (dashed _ ((c .before .before .before .before .before .before .before .before .before .before .before .before .before .before .args .c)) ((c .before .before .before .before .before .before .before .before .before .rest-of .result)) ((c .before .before .before .before .before .before .before .before .before .rest-of .ensures .0)) (((c .before .before .before .before .before .before .before .before .before .rest-of .ensures .1)) ∙ ((c .before .before .before .before .before .before .before .before .before .before .before .before .before .before .pre .1 .1 .1 .1))) _ _ _ _ ((c .before .before .before .before .rush .ensures .1 .0)) ((c .joined .ensures)), (c .before .before .before .before .rush .ensures .1 .1)))
 
 pub dash-on-spec : {M : Type 1} → statement M
 dash-on-spec =
-    tie.close
-    (tie.spec
-    rest-of-requires
-    slice-aggregate-rush
-    slice-aggregate-rush-2
-    rush-requires
-    joined-requires
-    same-length
-    returns)
+    tie.close (tie.spec rest-of-requires rush-requires joined-requires same-length returns)

@@ -1,4 +1,4 @@
-use Rattle.swift.proofs.Seeking.{same-table}
+use Rattle.hops.proofs.Seeking.{same-table}
 use borrow.Author.Needs.{needs}
 use Rattle.swift.proofs.turned.Statement.{statement}
 use Rattle.swift.proofs.turned.Tie as tie

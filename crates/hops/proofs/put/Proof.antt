@@ -1,0 +1,20 @@
+use lib.Seq.{set-out}
+use borrow.Author.Needs.{needs}
+use mathlib.Core.Path.{sym}
+use Rattle.hops.proofs.put.Statement.{statement}
+use Rattle.hops.proofs.put.Tie as tie
+
+slice-write-mem : tie.Need-slice-write-mem
+slice-write-mem c = search needs
+
+same-length : tie.Need-same-length
+same-length c = search needs
+
+returns : tie.Need-returns
+returns c = search needs
+
+returns-2 : tie.Need-returns-2
+returns-2 c = sym (set-out _ _ _ (c .if1 .left))
+
+pub put-spec : {M : Type 1} → statement M
+put-spec = tie.close (tie.spec slice-write-mem same-length returns returns-2)

@@ -1,0 +1,149 @@
+-- A form that needs no memory, carried out.
+-- Assumes nothing.
+use Prim.Native.Nat.{ℕ, _+_, _-_, _/_, _%_, _<_}
+use mathlib.Core.Path.{_≡_, refl, _∙_}
+use mathlib.Core.Bool.{Bool, true, false, cond}
+use mathlib.Core.List.{List}
+use native.Mathlib.Omega.{arith}
+use borrow.Author.Tests.{lt-ltb}
+use lib.Dec.{eqb}
+use lib.ListN.{length, getD, set, List·getD-eq-default}
+use Rattle.alu.specs.declared.Status.{Status}
+use Rattle.alu.specs.declared.brief.Brief.{Brief}
+use Rattle.alu.specs.declared.brief.Short.{Short}
+use Rattle.alu.specs.Brief.{statusIn, outIn}
+use Rattle.machine.specs.declared.Control.{Control}
+use Rattle.machine.specs.Record.{Mem, wrap, readAt, withRegister, writeAt}
+use Rattle.conditions.specs.Conditions.{holds}
+use Rattle.keptpages.specs.declared.Kept.{Kept}
+use Rattle.products.specs.Products.{product}
+use Rattle.outcome.specs.declared.Fast.{Fast}
+use Rattle.outcome.specs.Outcome.{file, outOf, depositOf}
+use Rattle.shortcut.specs.Forms.{taking, jumpFast}
+use Rattle.shortcut.specs.Shortcut.{FastOk}
+use Rattle.forms.specs.declared.Form.{Form}
+use Rattle.forms.specs.Forms.{reg, nextIn, spotIn, target, working, doubling, meant}
+use Rattle.hops.specs.declared.Rest.{Rest}
+use Rattle.hops.specs.Hops.{SwiftOk}
+use Rattle.hops.proofs.Seeking.{none-reached}
+use Rattle.hops.proofs.Swiftly.{unmoved, few-hopped, jumped, double-hopped, of-operands, move-out}
+use Rattle.strides.specs.declared.Ended.{Ended}
+use Rattle.strides.specs.Strides.{Stands, Here, EndedOk}
+
+-- ---- what a form means
+
+module _ (f : Form) (e : List ℕ) (eip : ℕ) (s : Status) where
+  pub by-register : (op to : ℕ) {x y : ℕ} → f .kind ≡ op → op / 16 ≡ 0 → taking op (f .a) ≡ to → x ≡ reg e (f .a) → y ≡ reg e (f .b)
+      → meant f e eip s ≡ working op true 0 0 x y to (nextIn f eip)
+  unfolding meant
+  by-register op to k l t ex ey = rw (k, l, t, ex, ey)
+
+  pub by-number : (op to : ℕ) {x : ℕ} → f .kind ≡ op + 16 → (op + 16) / 16 ≡ 1 → taking op (f .a) ≡ to → eqb op 9 ≡ false → x ≡ reg e (f .a)
+      → meant f e eip s ≡ working op true 0 0 x (f .number) to (nextIn f eip)
+  unfolding meant
+  by-number op to k l t n ex = let o : op + 16 - 16 ≡ op = omega arith in rw (k, l, o, t, n, ex)
+
+  -- the operation by the kind's name
+  pub by-count : (op : ℕ) {x : ℕ} → f .kind ≡ op + 16 → (op + 16) / 16 ≡ 1 → taking op (f .a) ≡ f .a → eqb op 9 ≡ false → x ≡ reg e (f .a)
+      → meant f e eip s ≡ working (f .kind - 16) true 0 0 x (f .number) (f .a) (nextIn f eip)
+  by-count op k l t n ex = let o : f .kind - 16 ≡ op = omega (arith, k) in rw o (by-number op (f .a) k l t n ex)
+
+  pub move-number : f .kind ≡ 25 → meant f e eip s ≡ working 9 true 0 0 0 (f .number) (f .a) (nextIn f eip)
+  unfolding meant
+  move-number k = rw k
+
+  pub on-condition : (n : ℕ) {b : Bool} → f .kind ≡ n + 48 → (n + 48) / 16 ≡ 3 → b ≡ holds n s → meant f e eip s ≡ jumpFast (cond b (target f eip) (nextIn f eip))
+  unfolding meant
+  on-condition n k l eb = let o : n + 48 - 48 ≡ n = omega arith in rw (k, l, o, eb)
+
+  pub a-jump : f .kind ≡ 69 → meant f e eip s ≡ jumpFast (target f eip)
+  unfolding meant
+  a-jump k = rw k
+
+  pub an-address : {y : ℕ} → f .kind ≡ 71 → y ≡ spotIn f e → meant f e eip s ≡ working 9 true 0 0 0 y (f .a) (nextIn f eip)
+  unfolding meant
+  an-address k ey = rw (k, ey)
+
+  pub a-byte-test : {x y : ℕ} → f .kind ≡ 74 → x ≡ readAt false (file e) (f .a) → y ≡ readAt false (file e) (f .b)
+      → meant f e eip s ≡ working 8 false 0 0 x y 8 (nextIn f eip)
+  unfolding meant
+  a-byte-test k ex ey = rw (k, ex, ey)
+
+  a-double : f .kind ≡ 75 → meant f e eip s ≡ doubling f e eip
+  unfolding meant
+  a-double k = rw k
+
+  pub a-product : {x : ℕ} → f .kind ≡ 76 → x ≡ reg e (f .b) → meant f e eip s ≡ working 14 true 0 0 x (f .number) (f .a) (nextIn f eip)
+  unfolding meant
+  a-product k ex = rw (k, ex)
+
+-- ---- the ends
+
+abbrev ended : ℕ → ℕ → Brief → Ended
+ended status eip g = record { status = status; rest = record { eip = eip; flags = g } }
+
+module _ (m : Mem) (e : List ℕ) (c : Control) (r : Rest) (h : Kept) (d : List ℕ) (f : Form) (stands : Stands m c h d r) where
+  pub not-done : {w : Ended} → w ≡ record { status = 1; rest = r } → EndedOk m e c r h d f m e w
+  not-done ew = rw ew (record { swift = unmoved m e c r h d (stands .pages); follows = λ z. absurd (omega (arith, z)) })
+
+  module _ (here : Here m h r f) {v : ℕ} (ev : v ≡ reg e (f .b)) (whole : v < 4294967296) (eight : length e ≡ 8) where
+    abbrev s : Status
+    s = statusIn (r .flags)
+
+    abbrev next : ℕ
+    next = nextIn f (r .eip)
+
+    fast : {p : Fast} → meant f e (r .eip) s ≡ p → FastOk m e s (r .eip) (h .base + r .eip % 4096) p
+    fast ep =
+        let none : reg e 8 ≡ 0 = List·getD-eq-default e 0 (omega (arith, eight)) in
+        let k : FastOk m e s (r .eip) (h .base + r .eip % 4096) (meant f e (r .eip) s) = here .0 e s (r .eip) (rw ev at whole) none in
+        rw ep at k
+
+    -- the instruction after it follows
+    on-next : {e′ : List ℕ} {w : Ended} {n : ℕ} (g : Brief) → n ≡ next → w ≡ ended 0 n g → SwiftOk m e c r h m e′ d (record { done = true; holds = true; rest = record { eip = next; flags = g } })
+        → EndedOk m e c r h d f m e′ w
+    on-next g en ew k = rw (ew, en) (record { swift = k; follows = λ _. (refl, (refl, λ i _. refl)) })
+
+    worked : {op x y to n : ℕ} {wide : Bool} {e′ : List ℕ} {w : Ended} (o : Short) → meant f e (r .eip) s ≡ working op wide 0 0 x y to next → outIn o ≡ outOf op wide x y s
+        → e′ ≡ depositOf (working op wide 0 0 x y to next) (file e) (o .value) .e → n ≡ next → w ≡ ended 0 n (o .flags) → EndedOk m e c r h d f m e′ w
+    worked {op} {x} {y} {to} {n} {wide} o ep eo ee en ew =
+        let p : Fast = working op wide 0 0 x y to next in
+        on-next (o .flags) en ew
+        (few-hopped m e c r h d (stands .pages .0) (stands .size) (stands .small) (stands .page) (stands .room) _ p refl (fast ep) (record { eip = next; flags = o .flags })
+        (record { found = true; at = 0; value = 0; x = x; y = y }) refl (none-reached m c p _ refl refl refl refl) (omega arith) (omega arith) (of-operands p (record { found = true; at = 0; value = 0; x = x; y = y }) s (refl, refl) eo) ee refl refl (stands .pages))
+
+    -- the result goes to a register
+    pub to-register : {op x y n : ℕ} {e′ : List ℕ} {w : Ended} (o : Short) → meant f e (r .eip) s ≡ working op true 0 0 x y (f .a) next → outIn o ≡ outOf op true x y s
+        → e′ ≡ set e (f .a) (o .value) → n ≡ next → w ≡ ended 0 n (o .flags) → EndedOk m e c r h d f m e′ w
+    unfolding depositOf writeAt
+    to-register o ep eo ee en ew = worked o ep eo (ee ∙ rw (lt-ltb (f .a) 8 (here .1 .a))) en ew
+
+    -- or nowhere
+    pub to-none : {op x y n : ℕ} {wide : Bool} {w : Ended} (o : Short) → meant f e (r .eip) s ≡ working op wide 0 0 x y 8 next → outIn o ≡ outOf op wide x y s
+        → n ≡ next → w ≡ ended 0 n (o .flags) → EndedOk m e c r h d f m e w
+    unfolding depositOf
+    to-none o ep eo en ew = worked o ep eo refl en ew
+
+    pub moves : {x y n : ℕ} {e′ : List ℕ} {w : Ended} → meant f e (r .eip) s ≡ working 9 true 0 0 x y (f .a) next → x < 4294967296 → y < 4294967296
+        → e′ ≡ set e (f .a) y → n ≡ next → w ≡ ended 0 n (r .flags) → EndedOk m e c r h d f m e′ w
+    moves {x} {y} ep hx hy ee en ew = to-register (record { value = y; flags = r .flags }) ep (move-out 9 x y true s hx hy refl) ee en ew
+
+    -- jumps, taken or not
+    jumping : {t : ℕ} → meant f e (r .eip) s ≡ jumpFast t → SwiftOk m e c r h m e d (record { done = true; holds = true; rest = record { eip = t; flags = r .flags } })
+    unfolding jumpFast
+    jumping {t} ep =
+        jumped m e c r h d (stands .pages .0) (stands .size) (stands .small) (stands .page) (stands .room) _ (jumpFast t) refl (fast ep) (record { eip = t; flags = r .flags }) refl refl refl refl (stands .pages)
+
+    pub branches : (b : Bool) {n t : ℕ} {w : Ended} → meant f e (r .eip) s ≡ jumpFast (cond b (target f (r .eip)) next) → n ≡ next → t ≡ wrap (n + f .number)
+        → w ≡ ended (cond b 2 0) (cond b t n) (r .flags) → EndedOk m e c r h d f m e w
+    branches true ep en et ew = rw (ew, et, en) (record { swift = jumping ep; follows = λ z. absurd (omega (arith, z)) })
+    branches false ep en et ew = on-next (r .flags) en ew (jumping ep)
+
+    -- MUL
+    pub doubles : {x n : ℕ} {e′ : List ℕ} {w : Ended} → f .kind ≡ 75 → x ≡ reg e (f .b)
+        → e′ ≡ withRegister (withRegister (file e) 0 (product false true (getD e 0 0) x s .low)) 2 (product false true (getD e 0 0) x s .high) .e
+        → w .status ≡ 0 → n ≡ next → w .rest .eip ≡ n → statusIn (w .rest .flags) ≡ product false true (getD e 0 0) x s .status → EndedOk m e c r h d f m e′ w
+    doubles {w = w} k ex ee es en ei ef =
+        let p : Fast = doubling f e (r .eip) in
+        let t = double-hopped m e c r h d (stands .pages .0) (stands .size) (stands .small) (stands .page) (stands .room) _ p refl (fast (a-double f e (r .eip) s k)) (w .rest) refl (rw ex at ee) (ei ∙ en) (rw ex at ef) (stands .pages) in
+        record { swift = rw es t; follows = λ _. (ei ∙ en, (refl, λ i _. refl)) }

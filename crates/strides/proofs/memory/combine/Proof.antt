@@ -1,0 +1,67 @@
+use Prim.Native.Nat.{_<_}
+use Rattle.strides.proofs.Reaching.{stays, combined, compared}
+use borrow.Author.Needs.{needs}
+use borrow.Author.Tests.{not-false}
+use Rattle.strides.proofs.memory.combine.Statement.{statement}
+use Rattle.strides.proofs.memory.combine.Tie as tie
+
+eight-requires : tie.Need-eight-requires
+eight-requires c κs = search needs
+
+spot-requires : tie.Need-spot-requires
+spot-requires c κs = search needs
+
+reach-requires : tie.Need-reach-requires
+reach-requires c κs = search needs
+
+stuck-requires : tie.Need-stuck-requires
+stuck-requires c κs = search needs
+
+returns : tie.Need-returns
+returns c = rw (c .stuck .ensures) (stays _ _ (c .before .before .before .before .before .before .before .before .before .args .c) (c .before .before .before .before .before .before .before .before .before .args .r) (c .before .before .before .before .before .before .before .before .before .args .h) _ (c .before .before .before .before .before .before .before .before .before .args .f) (c .before .before .before .before .before .before .before .before .before .pre .0))
+
+sub-dwords : tie.Need-sub-dwords
+sub-dwords c = search needs
+
+register-requires : tie.Need-register-requires
+register-requires c κs = search needs
+
+cast-dword : tie.Need-cast-dword
+cast-dword c = search needs
+
+dword-requires : tie.Need-dword-requires
+dword-requires c κs = search needs
+
+dwords-requires : tie.Need-dwords-requires
+dwords-requires c κs = search needs
+
+onward-requires : tie.Need-onward-requires
+onward-requires c κs = search needs
+
+returns-2 : tie.Need-returns-2
+returns-2 c = let few : (c .before .before .before .before .before .dword .result) < 4294967296 = search needs in rw (c .onward .ensures) (compared _ _ (c .before .before .before .before .before .before .before .before .before .before .before .before .before .before .before .before .before .before .before .args .c) (c .before .before .before .before .before .before .before .before .before .before .before .before .before .before .before .before .before .before .before .args .r) (c .before .before .before .before .before .before .before .before .before .before .before .before .before .before .before .before .before .before .before .args .h) _ (c .before .before .before .before .before .before .before .before .before .before .before .before .before .before .before .before .before .before .before .args .f) (c .before .before .before .before .before .before .before .before .before .before .before .before .before .before .before .before .before .before .before .pre .0) (c .before .before .before .before .before .before .before .before .before .before .before .before .before .before .before .before .before .before .before .pre .1 .0) (c .before .before .before .before .before .before .before .before .before .before .before .before .before .before .before .before .eight .ensures) (c .before .before .before .before .before .before .before .before .before .before .before .before .before .before .spot .ensures) ((c .before .before .before .before .before .before .before .before .before .before .before .before .before .reach .ensures) (not-false _ (c .before .before .before .before .before .before .before .before .before .before .before .if1 .left))) (c .before .before .before .before .before .before .before .before .before .before .before .before .before .before .before .before .before .before .before .pre .1 .1 .1) (c .before .before .before .before .before .before .before .before .before .before .before .before .before .before .before .before .before .before .before .pre .1 .1 .0) (c .before .before .before .before .dwords .result) (c .before .before .before .before .before .before .before .register .ensures) (c .before .before .before .before .before .dword .ensures) few (c .before .before .before .before .dwords .ensures) (c .before .before .if2 .taken))
+
+wrote-requires : tie.Need-wrote-requires
+wrote-requires c κs = (c .before .before .before .before .before .before .before .before .before .before .before .before .before .before .before .before .before .before .pre .1 .0 .1 .a)
+
+returns-3 : tie.Need-returns-3
+returns-3 c = let few : (c .before .before .before .before .before .dword .result) < 4294967296 = search needs in rw (c .wrote .ensures .1) (combined _ _ (c .before .before .before .before .before .before .before .before .before .before .before .before .before .before .before .before .before .before .before .args .c) (c .before .before .before .before .before .before .before .before .before .before .before .before .before .before .before .before .before .before .before .args .r) (c .before .before .before .before .before .before .before .before .before .before .before .before .before .before .before .before .before .before .before .args .h) _ (c .before .before .before .before .before .before .before .before .before .before .before .before .before .before .before .before .before .before .before .args .f) (c .before .before .before .before .before .before .before .before .before .before .before .before .before .before .before .before .before .before .before .pre .0) (c .before .before .before .before .before .before .before .before .before .before .before .before .before .before .before .before .before .before .before .pre .1 .0) (c .before .before .before .before .before .before .before .before .before .before .before .before .before .before .before .before .eight .ensures) (c .before .before .before .before .before .before .before .before .before .before .before .before .before .before .spot .ensures) ((c .before .before .before .before .before .before .before .before .before .before .before .before .before .reach .ensures) (not-false _ (c .before .before .before .before .before .before .before .before .before .before .before .if1 .left))) (c .before .before .before .before .before .before .before .before .before .before .before .before .before .before .before .before .before .before .before .pre .1 .1 .1) (c .before .before .before .before .before .before .before .before .before .before .before .before .before .before .before .before .before .before .before .pre .1 .1 .0) (c .before .before .before .before .dwords .result) (c .before .before .before .before .before .before .before .register .ensures) (c .before .before .before .before .before .dword .ensures) few (c .before .before .before .before .dwords .ensures) (c .before .before .if2 .left) (c .wrote .ensures .0))
+
+pub combine-spec : {M : Type 1} → statement M
+combine-spec =
+    tie.close
+    (tie.spec
+    eight-requires
+    spot-requires
+    reach-requires
+    stuck-requires
+    returns
+    sub-dwords
+    register-requires
+    cast-dword
+    dword-requires
+    dwords-requires
+    onward-requires
+    returns-2
+    wrote-requires
+    returns-3)
