@@ -11,7 +11,8 @@ import sys
 
 TOP = os.path.join(os.path.dirname(os.path.abspath(__file__)), "../..")
 A, B, S, P, G, X, E, N, D, M, R, U = "alu", "alu/brief", "shifts", "products", "paging", "access", "encoding", "fetch", "decode", "machine", "micro32", "audit"
-Q, H, O, F, T, W = "keptpages", "keptpages/held", "outcome", "shortcut/bytes", "shortcut", "swift"  # the quick way's
+Q, H, O, F, T, W = "keptpages", "keptpages/held", "outcome", "shortcut/bytes", "shortcut", "hops"  # the quick way's
+I, K, L, Z, J, V, Y = "forms", "blocks", "strides", "strides/ends", "strides/memory", "swift", "sprints"  # and its blocks'
 # where it stands, the wrong rule in words, the text of the rule, the wrong text
 RULES = [
     (B, "SBB's borrow is folded into the subtrahend", "let s = b as u64 + k as u64;", "let s = (b as u64 + k as u64) % 0x1_0000_0000;"),
@@ -94,7 +95,7 @@ RULES = [
     (H, "quick: a page that is kept for reading is written", "        return 16 + k as usize;", "        return k as usize;"),
     (W, "quick: pages are kept after a store into their table", "(first == table) | (last == table) | ", ""),
     (W, "quick: pages are kept after a store into the directory", " | (first == dir) | (last == dir)", ""),
-    (W, "quick: pages of data are kept where code of another table goes on", "if holds & (k.table == table) {", "if holds {"),
+    (V, "quick: pages of data are kept where code of another table goes on", "if holds & (k.table == table) {", "if holds {"),
     (W, "quick: a dword over a page's end is taken as one page's", "4092 < p.at % 4096", "4094 < p.at % 4096"),
     (O, "quick: SBB of dwords without the borrow", "3 => alu::brief::sub32(x, y, f.cf),", "3 => alu::brief::sub32(x, y, false),"),
     (O, "quick: INC of a dword changes CF", "10 => alu::brief::keep_carry(f, alu::brief::add32(x, 1, false)),", "10 => alu::brief::add32(x, 1, false),"),
@@ -109,6 +110,18 @@ RULES = [
     (T, "quick: IMUL by a byte with a dword, and by a dword with a byte", "b == 0x69, m)", "b != 0x69, m)"),
     (W, "quick: an operation on memory has what lies there for both operands", "either((p.access == 1) | (p.access == 3), p.y, v)", "either(p.access == 1, p.y, v)"),
     (W, "quick: TEST of dwords sets no flags", "if (p.op == 9) & p.wide {", "if (p.op == 8) & p.wide {"),
+    (I, "block: a displacement byte has no sign", "            upto: 3,\n            number: fetch::extend(shortcut::bytes::byte(mem, i + 2)),", "            upto: 3,\n            number: shortcut::bytes::byte(mem, i + 2),"),
+    (I, "block: a form of MOV to memory is LEA's", "        kind: 64,", "        kind: 71,"),
+    (K, "block: the bytes beyond the first eight are not compared", "    if g[s + 1] != word(mem, i + 8) {\n        return false;\n    }\n", "    if g[s] == word(mem, i) {\n        return true;\n    }\n"),
+    ("strides/results", "block: ADC has no carry", "alu::brief::add32(x, y, f.cf)", "alu::brief::add32(x, y, false)"),
+    ("strides/results", "block: SBB has no borrow", "alu::brief::sub32(x, y, f.cf)", "alu::brief::sub32(x, y, false)"),
+    (L, "block: CMP writes its result", "        7 => compared(next, results::lessened(x, y, s)),", "        7 => wrote(e, to, next, results::lessened(x, y, s)),"),
+    (L, "block: JNE is JE", "shortcut::condition::holds(5, s)", "shortcut::condition::holds(4, s)"),
+    (Z, "block: a store into the code page is not seen", "        return 2;", "        return 0;"),
+    (Z, "block: a dword over a page's end is taken as one page's", "    if 4092 < l % 4096 {", "    if 4095 < l % 4096 {"),
+    (J, "block: POP and RET leave ESP too high", "std::num::wrapping_add_u32(top, 4)", "std::num::wrapping_add_u32(top, 8)"),
+    (J, "block: CALL stores where it goes", "let status = crate::ends::store(mem, c, h, q.at, next);", "let status = crate::ends::store(mem, c, h, q.at, std::num::wrapping_add_u32(next, f.number));"),
+    (Y, "block: the budget is not kept within a block", "    let size = least(g[s + 4] as u32, limit);", "    let size = least(g[s + 4] as u32, 11);"),
 ]
 
 
