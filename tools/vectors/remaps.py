@@ -51,4 +51,7 @@ LIST = [
      paged("41" + READ_EAX + END, {4: 0x5061}), ran(1, FAULT, 14, 5, 0x404000, {1: 1}, 0x403001)),
     ("a page whose marks are made is not written where it may not be",
      paged("41" + WRITE_EAX + END, {4: 0x5065}), ran(1, FAULT, 14, 7, 0x404000, {1: 1}, 0x403001)),
+    ("two turns: a dword over two pages whose frames are apart, after another of the first page",
+     paged("8b138b43064975f8" + END, {4: 0x5067, 5: 0x7067}, memory=[(0x5FFE, b"\x11\x22"), (0x7000, b"\x33\x44")], regs=[0, 2, 0, 0x404FF8, 0, 0, 0, 0]),
+     ran(8, TRAP, 0x30, 0, 0x40300A, {0: 0x44332211, 1: 0}, 0x403008, 0x46)),
 ]
