@@ -1,3 +1,4 @@
 pub mod Parts
+pub mod Standing
 pub mod Reaching
 pub mod Working

@@ -7,7 +7,7 @@ use mathlib.Core.List.{List}
 use native.Mathlib.Omega.{arith}
 use borrow.Author.Tests.{lt-ltb, ne-eqb, eqb-true}
 use lib.Dec.{eqb}
-use lib.ListN.{length, getD, set, List·getD-eq-default}
+use lib.ListN.{length, getD, set}
 use Rattle.alu.specs.declared.Status.{Status}
 use Rattle.alu.specs.declared.Out.{Out}
 use Rattle.alu.specs.declared.brief.Brief.{Brief}
@@ -23,16 +23,16 @@ use Rattle.outcome.specs.declared.Fast.{Fast}
 use Rattle.outcome.specs.Outcome.{file, stores, outOf, stacked, depositOf, registersAfter, nextOf}
 use Rattle.outcome.proofs.Effects.{byte-numbered}
 use Rattle.shortcut.specs.Forms.{taking, pushFast, popFast}
-use Rattle.shortcut.specs.Shortcut.{FastOk}
 use Rattle.forms.specs.declared.Form.{Form}
 use Rattle.forms.specs.Forms.{reg, nextIn, spotIn, target, working, byMemory, byByte, meant}
 use Rattle.hops.specs.declared.Rest.{Rest}
 use Rattle.hops.specs.Hops.{saved, Holds, Reaches, Spared}
 use Rattle.hops.proofs.Seeking.{pushed, read, reached, put-there, saved-all, pages-move-on}
-use Rattle.hops.proofs.Swiftly.{unmoved, hopped, of-operands, move-out}
+use Rattle.hops.proofs.Swiftly.{hopped, of-operands, move-out}
 use Rattle.strides.specs.declared.Ended.{Ended}
 use Rattle.strides.specs.Strides.{Stands, Here, EndedOk}
 use Rattle.strides.proofs.Parts.{Answers}
+use Rattle.strides.proofs.Standing.{fast}
 
 first-of : (x y : Bool) → (x || y) ≡ true → y ≡ false → x ≡ true
 first-of true y e h = refl
@@ -109,13 +109,6 @@ module _ (m : Mem) (e : List ℕ) (c : Control) (r : Rest) (h : Kept) (d : List 
   abbrev s : Status
   s = statusIn (r .flags)
 
-  -- not done
-  pub stays : EndedOk m e c r h d f m e (record { status = 1; rest = r })
-  stays = record { swift = unmoved m e c r h d (stands .pages); follows = λ z. absurd (apart z) }
-    where
-      apart : _≡_ {A = ℕ} 1 0 → ⊥
-      apart z = omega (arith, z)
-
   -- the byte at l is on a page at hand, at index i, and so is the dword
   abbrev Near : Bool → ℕ → ℕ → Type 0
   Near w l i = (l % 4096 ≤ 4092) × ((m : Mem) (c : Control) → HeldOk m c (h .table) d → Quiet m c w l (record { 0 = i }))
@@ -127,11 +120,6 @@ module _ (m : Mem) (e : List ℕ) (c : Control) (r : Rest) (h : Kept) (d : List 
       reached m c p (stands .size) small (record { 0 = i }) (rw el at (near .1 m c (stands .pages .1))) (record { found = true; at = i; value = u; x = x; y = y }) v n (λ _. rw el at (near .0)) ev refl k
 
   module _ (here : Here m h r f) (known : (length e ≡ 8) × ((n : ℕ) → getD e n 0 < 4294967296)) where
-    fast : (p : Fast) → meant f e (r .eip) s ≡ p → FastOk m e s (r .eip) (h .base + r .eip % 4096) p
-    fast p is =
-        let n : length e ≤ 8 = omega (arith, known .0) in
-        rw is at (here .0 e s (r .eip) (known .1 (f .b)) (List·getD-eq-default e 0 n))
-
     -- the instruction p, with its access found
     ended : (p : Fast) → meant f e (r .eip) s ≡ p → p .taken ≡ true → (i u x y : ℕ) → Reaches m c p (record { found = true; at = i; value = u; x = x; y = y }) → u < 4294967296
         → {m′ : Mem} {e′ : List ℕ} {o : Out} (w : Ended) → o ≡ outOf (p .op) (p .wide) x y s → m′ ≡ saved p i (o .value) m
@@ -139,7 +127,7 @@ module _ (m : Mem) (e : List ℕ) (c : Control) (r : Rest) (h : Kept) (d : List 
         → not (eqb (w .status) 1) ≡ true → (not (eqb (w .status) 3) ≡ true → Spared m m′ c (h .table))
         → (w .status ≡ 0 → (w .rest .eip ≡ nextIn f (r .eip)) × (Agree m m′ (h .base / 4096))) → EndedOk m e c r h d f m′ e′ w
     ended p is taken i u x y found few {m′} w eo em ee ei es done spared after =
-        let k = hopped m e c r h d (stands .pages .0) (stands .size) (stands .small) (stands .page) (stands .room) _ p refl (fast p is) (w .rest) (not (eqb (w .status) 3))
+        let k = hopped m e c r h d (stands .pages .0) (stands .size) (stands .small) (stands .page) (stands .room) _ p refl (fast m e c r h d f here (known .1 (f .b)) (known .0) p is) (w .rest) (not (eqb (w .status) 3))
         (record { found = true; at = i; value = u; x = x; y = y }) taken found few (of-operands p (record { found = true; at = i; value = u; x = x; y = y }) s (found .operands) eo) em ee ei es
         (λ g. pages-move-on m m′ c h d (spared g) (stands .pages)) in
         record { swift = rw done k; follows = λ z. (after z .0, (spared (holds z) .0, after z .1)) }

@@ -7,7 +7,7 @@ use mathlib.Core.List.{List}
 use native.Mathlib.Omega.{arith}
 use borrow.Author.Tests.{lt-ltb}
 use lib.Dec.{eqb}
-use lib.ListN.{length, getD, set, List·getD-eq-default}
+use lib.ListN.{length, getD, set}
 use Rattle.alu.specs.declared.Status.{Status}
 use Rattle.alu.specs.declared.brief.Brief.{Brief}
 use Rattle.alu.specs.declared.brief.Short.{Short}
@@ -26,9 +26,10 @@ use Rattle.forms.specs.Forms.{reg, nextIn, spotIn, target, working, doubling, m
 use Rattle.hops.specs.declared.Rest.{Rest}
 use Rattle.hops.specs.Hops.{SwiftOk}
 use Rattle.hops.proofs.Seeking.{none-reached}
-use Rattle.hops.proofs.Swiftly.{unmoved, few-hopped, jumped, double-hopped, of-operands, move-out}
+use Rattle.hops.proofs.Swiftly.{few-hopped, jumped, double-hopped, of-operands, move-out}
 use Rattle.strides.specs.declared.Ended.{Ended}
 use Rattle.strides.specs.Strides.{Stands, Here, EndedOk}
+use Rattle.strides.proofs.Standing.{fast}
 
 -- ---- what a form means
 
@@ -83,9 +84,6 @@ abbrev ended : ℕ → ℕ → Brief → Ended
 ended status eip g = record { status = status; rest = record { eip = eip; flags = g } }
 
 module _ (m : Mem) (e : List ℕ) (c : Control) (r : Rest) (h : Kept) (d : List ℕ) (f : Form) (stands : Stands m c h d r) where
-  pub not-done : {w : Ended} → w ≡ record { status = 1; rest = r } → EndedOk m e c r h d f m e w
-  not-done ew = rw ew (record { swift = unmoved m e c r h d (stands .pages); follows = λ z. absurd (omega (arith, z)) })
-
   module _ (here : Here m h r f) {v : ℕ} (ev : v ≡ reg e (f .b)) (whole : v < 4294967296) (eight : length e ≡ 8) where
     abbrev s : Status
     s = statusIn (r .flags)
@@ -93,11 +91,8 @@ module _ (m : Mem) (e : List ℕ) (c : Control) (r : Rest) (h : Kept) (d : List 
     abbrev next : ℕ
     next = nextIn f (r .eip)
 
-    fast : {p : Fast} → meant f e (r .eip) s ≡ p → FastOk m e s (r .eip) (h .base + r .eip % 4096) p
-    fast ep =
-        let none : reg e 8 ≡ 0 = List·getD-eq-default e 0 (omega (arith, eight)) in
-        let k : FastOk m e s (r .eip) (h .base + r .eip % 4096) (meant f e (r .eip) s) = here .0 e s (r .eip) (rw ev at whole) none in
-        rw ep at k
+    is-there : {p : Fast} → meant f e (r .eip) s ≡ p → FastOk m e s (r .eip) (h .base + r .eip % 4096) p
+    is-there {p} ep = fast m e c r h d f here (rw ev at whole) eight p ep
 
     -- the instruction after it follows
     on-next : {e′ : List ℕ} {w : Ended} {n : ℕ} (g : Brief) → n ≡ next → w ≡ ended 0 n g → SwiftOk m e c r h m e′ d (record { done = true; holds = true; rest = record { eip = next; flags = g } })
@@ -109,7 +104,7 @@ module _ (m : Mem) (e : List ℕ) (c : Control) (r : Rest) (h : Kept) (d : List 
     worked {op} {x} {y} {to} {n} {wide} o ep eo ee en ew =
         let p : Fast = working op wide 0 0 x y to next in
         on-next (o .flags) en ew
-        (few-hopped m e c r h d (stands .pages .0) (stands .size) (stands .small) (stands .page) (stands .room) _ p refl (fast ep) (record { eip = next; flags = o .flags })
+        (few-hopped m e c r h d (stands .pages .0) (stands .size) (stands .small) (stands .page) (stands .room) _ p refl (is-there ep) (record { eip = next; flags = o .flags })
         (record { found = true; at = 0; value = 0; x = x; y = y }) refl (none-reached m c p _ refl refl refl refl) (omega arith) (omega arith) (of-operands p (record { found = true; at = 0; value = 0; x = x; y = y }) s (refl, refl) eo) ee refl refl (stands .pages))
 
     -- the result goes to a register
@@ -132,7 +127,7 @@ module _ (m : Mem) (e : List ℕ) (c : Control) (r : Rest) (h : Kept) (d : List 
     jumping : {t : ℕ} → meant f e (r .eip) s ≡ jumpFast t → SwiftOk m e c r h m e d (record { done = true; holds = true; rest = record { eip = t; flags = r .flags } })
     unfolding jumpFast
     jumping {t} ep =
-        jumped m e c r h d (stands .pages .0) (stands .size) (stands .small) (stands .page) (stands .room) _ (jumpFast t) refl (fast ep) (record { eip = t; flags = r .flags }) refl refl refl refl (stands .pages)
+        jumped m e c r h d (stands .pages .0) (stands .size) (stands .small) (stands .page) (stands .room) _ (jumpFast t) refl (is-there ep) (record { eip = t; flags = r .flags }) refl refl refl refl (stands .pages)
 
     pub branches : (b : Bool) {n t : ℕ} {w : Ended} → meant f e (r .eip) s ≡ jumpFast (cond b (target f (r .eip)) next) → n ≡ next → t ≡ wrap (n + f .number)
         → w ≡ ended (cond b 2 0) (cond b t n) (r .flags) → EndedOk m e c r h d f m e w
@@ -145,5 +140,5 @@ module _ (m : Mem) (e : List ℕ) (c : Control) (r : Rest) (h : Kept) (d : List 
         → w .status ≡ 0 → n ≡ next → w .rest .eip ≡ n → statusIn (w .rest .flags) ≡ product false true (getD e 0 0) x s .status → EndedOk m e c r h d f m e′ w
     doubles {w = w} k ex ee es en ei ef =
         let p : Fast = doubling f e (r .eip) in
-        let t = double-hopped m e c r h d (stands .pages .0) (stands .size) (stands .small) (stands .page) (stands .room) _ p refl (fast (a-double f e (r .eip) s k)) (w .rest) refl (rw ex at ee) (ei ∙ en) (rw ex at ef) (stands .pages) in
+        let t = double-hopped m e c r h d (stands .pages .0) (stands .size) (stands .small) (stands .page) (stands .room) _ p refl (is-there (a-double f e (r .eip) s k)) (w .rest) refl (rw ex at ee) (ei ∙ en) (rw ex at ef) (stands .pages) in
         record { swift = rw es t; follows = λ _. (ei ∙ en, (refl, λ i _. refl)) }

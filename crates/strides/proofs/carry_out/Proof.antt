@@ -1,7 +1,8 @@
 use Rattle.alu.specs.Brief.{statusIn}
 use mathlib.Core.Bool.{true}
 use Rattle.strides.proofs.Reaching.{pushes, pushes-number}
-use Rattle.strides.proofs.Working.{by-register, by-number, by-count, move-number, on-condition, a-jump, an-address, a-byte-test, a-product, not-done, to-register, to-none, moves, branches, doubles}
+use Rattle.strides.proofs.Standing.{stays}
+use Rattle.strides.proofs.Working.{by-register, by-number, by-count, move-number, on-condition, a-jump, an-address, a-byte-test, a-product, to-register, to-none, moves, branches, doubles}
 use borrow.Author.Needs.{needs}
 use native.Mathlib.Omega.{arith}
 use mathlib.Core.Path.{refl}
@@ -594,7 +595,7 @@ returns-63 : tie.Need-returns-63
 returns-63 c = to-register _ _ (c .before .before .before .before .before .before .before .before .before .before .before .before .before .before .args .c) (c .before .before .before .before .before .before .before .before .before .before .before .before .before .before .args .r) (c .before .before .before .before .before .before .before .before .before .before .before .before .before .before .args .h) _ (c .before .before .before .before .before .before .before .before .before .before .before .before .before .before .args .f) (c .before .before .before .before .before .before .before .before .before .before .before .before .before .before .pre .0) (c .before .before .before .before .before .before .before .before .before .before .before .before .before .before .pre .1) (c .before .before .before .before .before .before .before .register2 .ensures) (search needs) (c .before .before .before .before .before .eight2 .given .0) _ (a-product (c .before .before .before .before .before .before .before .before .before .before .before .before .before .before .args .f) _ ((c .before .before .before .before .before .before .before .before .before .before .before .before .before .before .args .r .eip)) (statusIn ((c .before .before .before .before .before .before .before .before .before .before .before .before .before .before .args .r .flags))) (c .before .before .before .match .keys63) (c .before .before .before .before .before .before .before .register2 .ensures)) (c .before .dwords4 .ensures) (c .wrote20 .ensures .0) (c .before .before .before .before .before .before .before .before .before .before .before .wrapping-add-u32 .ensures) (c .wrote20 .ensures .1)
 
 returns-64 : tie.Need-returns-64
-returns-64 c = not-done _ _ (c .before .before .before .before .before .before .before .before .before .before .before .before .args .c) (c .before .before .before .before .before .before .before .before .before .before .before .before .args .r) (c .before .before .before .before .before .before .before .before .before .before .before .before .args .h) _ (c .before .before .before .before .before .before .before .before .before .before .before .before .args .f) (c .before .before .before .before .before .before .before .before .before .before .before .before .pre .0) (c .stuck .ensures)
+returns-64 c = stays _ _ (c .before .before .before .before .before .before .before .before .before .before .before .before .args .c) (c .before .before .before .before .before .before .before .before .before .before .before .before .args .r) (c .before .before .before .before .before .before .before .before .before .before .before .before .args .h) _ (c .before .before .before .before .before .before .before .before .before .before .before .before .args .f) (c .before .before .before .before .before .before .before .before .before .before .before .before .pre .0) (c .stuck .ensures)
 
 pub carry-out-spec : {M : Type 1} → statement M
 carry-out-spec =

@@ -1,7 +1,8 @@
 use Prim.Native.Nat.{_<_}
 use mathlib.Core.Path.{refl}
 use borrow.Author.Tests.{not-false}
-use Rattle.strides.proofs.Reaching.{stays, called-on, called-off}
+use Rattle.strides.proofs.Reaching.{called-on, called-off}
+use Rattle.strides.proofs.Standing.{stays}
 use borrow.Author.Needs.{needs}
 use native.Mathlib.Omega.{arith}
 use Rattle.strides.proofs.memory.call.Statement.{statement}
@@ -23,7 +24,7 @@ stuck-requires : tie.Need-stuck-requires
 stuck-requires c κs = search needs
 
 returns : tie.Need-returns
-returns c = rw ((c .stuck .ensures)) (stays _ _ ((c .before .before .before .before .before .before .before .before .before .before .args .c)) ((c .before .before .before .before .before .before .before .before .before .before .args .r)) ((c .before .before .before .before .before .before .before .before .before .before .args .h)) _ ((c .before .before .before .before .before .before .before .before .before .before .args .f)) ((c .before .before .before .before .before .before .before .before .before .before .pre .0)))
+returns c = stays _ _ ((c .before .before .before .before .before .before .before .before .before .before .args .c)) ((c .before .before .before .before .before .before .before .before .before .before .args .r)) ((c .before .before .before .before .before .before .before .before .before .before .args .h)) _ ((c .before .before .before .before .before .before .before .before .before .before .args .f)) ((c .before .before .before .before .before .before .before .before .before .before .pre .0)) ((c .stuck .ensures))
 
 put-requires : tie.Need-put-requires
 put-requires c κs = search needs

@@ -1,4 +1,5 @@
-use Rattle.strides.proofs.Reaching.{stays, byte-loaded, byte-compared}
+use Rattle.strides.proofs.Reaching.{byte-loaded, byte-compared}
+use Rattle.strides.proofs.Standing.{stays}
 use borrow.Author.Needs.{needs}
 use borrow.Author.Tests.{not-false}
 use Rattle.strides.proofs.memory.from_byte.Statement.{statement}
@@ -17,7 +18,7 @@ stuck-requires : tie.Need-stuck-requires
 stuck-requires c κs = search needs
 
 returns : tie.Need-returns
-returns c = rw (c .stuck .ensures) (stays _ _ (c .before .before .before .before .before .before .before .before .before .args .c) (c .before .before .before .before .before .before .before .before .before .args .r) (c .before .before .before .before .before .before .before .before .before .args .h) _ (c .before .before .before .before .before .before .before .before .before .args .f) (c .before .before .before .before .before .before .before .before .before .pre .0))
+returns c = stays _ _ (c .before .before .before .before .before .before .before .before .before .args .c) (c .before .before .before .before .before .before .before .before .before .args .r) (c .before .before .before .before .before .before .before .before .before .args .h) _ (c .before .before .before .before .before .before .before .before .before .args .f) (c .before .before .before .before .before .before .before .before .before .pre .0) (c .stuck .ensures)
 
 cast-byte-at : tie.Need-cast-byte-at
 cast-byte-at c = search needs

@@ -1,6 +1,7 @@
 use lib.ListN.{getD}
 use Prim.Native.Nat.{ℕ, _<_}
-use Rattle.strides.proofs.Reaching.{stays, kept}
+use Rattle.strides.proofs.Reaching.{kept}
+use Rattle.strides.proofs.Standing.{stays}
 use borrow.Author.Needs.{needs}
 use borrow.Author.Tests.{not-false}
 use native.Mathlib.Omega.{arith}
@@ -20,7 +21,7 @@ stuck-requires : tie.Need-stuck-requires
 stuck-requires c κs = search needs
 
 returns : tie.Need-returns
-returns c = rw (c .stuck .ensures) (stays _ _ (c .before .before .before .before .before .before .before .args .c) (c .before .before .before .before .before .before .before .args .r) (c .before .before .before .before .before .before .before .args .h) _ (c .before .before .before .before .before .before .before .args .f) (c .before .before .before .before .before .before .before .pre .0))
+returns c = stays _ _ (c .before .before .before .before .before .before .before .args .c) (c .before .before .before .before .before .before .before .args .r) (c .before .before .before .before .before .before .before .args .h) _ (c .before .before .before .before .before .before .before .args .f) (c .before .before .before .before .before .before .before .pre .0) (c .stuck .ensures)
 
 register-requires : tie.Need-register-requires
 register-requires c κs = search needs
