@@ -115,6 +115,7 @@ RULES = [
     (K, "block: the bytes beyond the first eight are not compared", "    if g[s + 1] != word(mem, i + 8) {\n        return false;\n    }\n", "    if g[s] == word(mem, i) {\n        return true;\n    }\n"),
     ("strides/results", "block: ADC has no carry", "alu::brief::add32(x, y, f.cf)", "alu::brief::add32(x, y, false)"),
     ("strides/results", "block: SBB has no borrow", "alu::brief::sub32(x, y, f.cf)", "alu::brief::sub32(x, y, false)"),
+    ("strides/results", "block: INC changes CF", "alu::brief::keep_carry(f, alu::brief::add32(x, 1, false))", "alu::brief::add32(x, 1, false)"),
     (L, "block: CMP writes its result", "        7 => compared(next, results::lessened(x, y, s)),", "        7 => wrote(e, to, next, results::lessened(x, y, s)),"),
     (L, "block: JNE is JE", "shortcut::condition::holds(5, s)", "shortcut::condition::holds(4, s)"),
     (Z, "block: a store into the code page is not seen", "        return 2;", "        return 0;"),
