@@ -3,7 +3,7 @@
 -- Assumes nothing.
 use Prim.Native.Nat.{ℕ, _+_, _-_, _/_, _%_, _<_, _≤_}
 use mathlib.Core.Path.{_≡_, refl, ap, _∙_}
-use mathlib.Core.Bool.{Bool, true, false, cond, not, _&&_, _||_, false≢true}
+use mathlib.Core.Bool.{Bool, true, false, cond, not, _&&_, _||_}
 use mathlib.Core.List.{List, []}
 use native.Mathlib.Omega.{arith}
 use borrow.Author.Tests.{le-leb, lt-leb, le-ltb, leb-true, ne-eqb, eqb-true, eqb-false, ltb-false, not-true, not-false}
@@ -63,24 +63,6 @@ pub register-dword : (md b : ℕ) → (ltb md 192 || eqb (b % 2) 0) ≡ false �
 register-dword md b h =
     let k : b % 2 ≡ 0 → ⊥ = eqb-false (b % 2) 0 (or-right (ltb md 192) (eqb (b % 2) 0) h) in
     (ltb-false md 192 (or-left (ltb md 192) (eqb (b % 2) 0) h), omega (arith, k))
-
--- a class that a test names is small
-pub to-small : (c : ℕ) → (eqb c 4 || eqb c 8 || eqb c 11) ≡ true → c < 256
-to-small c h = by (eqb c 4) refl (eqb c 8) refl (eqb c 11) refl
-  where
-    by : (x : Bool) → eqb c 4 ≡ x → (y : Bool) → eqb c 8 ≡ y → (z : Bool) → eqb c 11 ≡ z → c < 256
-    by true x y y′ z z′ = rw (eqb-true c 4 x) (omega arith)
-    by false x true y z z′ = rw (eqb-true c 8 y) (omega arith)
-    by false x false y true z = rw (eqb-true c 11 z) (omega arith)
-    by false x false y false z = absurd (false≢true (rw (x, y, z) at h))
-
-pub from-small : (c : ℕ) → (eqb c 5 || eqb c 12) ≡ true → c < 256
-from-small c h = by (eqb c 5) refl (eqb c 12) refl
-  where
-    by : (x : Bool) → eqb c 5 ≡ x → (y : Bool) → eqb c 12 ≡ y → c < 256
-    by true x y y′ = rw (eqb-true c 5 x) (omega arith)
-    by false x true y = rw (eqb-true c 12 y) (omega arith)
-    by false x false y = absurd (false≢true (rw (x, y) at h))
 
 -- ---- a register and a number beside it: register 8 is none, and 0
 

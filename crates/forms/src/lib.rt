@@ -311,17 +311,6 @@ fn plain(mem: &[u8], i: usize, c: u32, b: u32, m: u32) -> Form
     }
 }
 
-// The operation of two operands with ModRM: ADD to CMP, then TEST and MOV, as their opcodes have it.
-fn operation(c: u32, b: u32) -> u32
-    requires { ⌜ c < 256 ⌝ }
-    ensures { λ r. ⌜ r ≡ operationOf c b ⌝ }
-{
-    if c <= 5 {
-        return b / 8 % 8;
-    }
-    if c == 8 { 8 } else { 9 }
-}
-
 // The form of the instruction at index i of memory, where sixteen bytes are there.
 pub fn read(mem: &[u8], t: &[u8; 512], i: usize) -> Form
     requires { ⌜ (i + 16 ≤ length (now mem)) × (Classed (now t)) ⌝ }
@@ -331,10 +320,10 @@ pub fn read(mem: &[u8], t: &[u8; 512], i: usize) -> Form
     let m = shortcut::bytes::byte(mem, i + 1);
     let c = encoding::class_in(t, b);
     if (c == 4) | (c == 8) | (c == 11) {
-        return to_operand(mem, i, c, operation(c, b), b, m);
+        return to_operand(mem, i, c, shortcut::operation(c, b), b, m);
     }
     if (c == 5) | (c == 12) {
-        return from_operand(mem, i, c, operation(c, b), b, m);
+        return from_operand(mem, i, c, shortcut::operation(c, b), b, m);
     }
     if c == 7 {
         return by_number(mem, i, b, m);

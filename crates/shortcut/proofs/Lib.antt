@@ -1,5 +1,5 @@
 pub mod Small
-mod Classes
+pub mod Classes
 pub mod Spots
 pub mod Decoded
 pub mod Fitting

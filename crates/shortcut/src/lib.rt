@@ -163,7 +163,7 @@ fn shift(mem: &[u8], e: &[u32], eip: u32, i: usize, b: u32, m: u32) -> Fast
 }
 
 // The operation of two operands with ModRM: ADD to CMP, then TEST and MOV, as their opcodes have it.
-fn operation(c: u32, b: u32) -> u32
+pub fn operation(c: u32, b: u32) -> u32
     requires { ⌜ (b < 256) × ((c ≡ classOf b) × (combines c ≡ true)) ⌝ }
     ensures { λ r. ⌜ r ≡ operationOf c b ⌝ }
 {

@@ -1,7 +1,9 @@
 // Blocks carried out one after another, as long as they lie on one code page.
 ghost use mathlib.Core.Path.{_≡_};
+ghost use mathlib.Core.Bool.{cond};
 ghost use Prim.Native.Nat.{_%_, _≤_};
 ghost use lib.ListN.{length};
+ghost use lib.Dec.{ltb};
 ghost use Rattle.encoding.specs.Encodings.{Classed};
 ghost use Rattle.blocks.specs.Blocks.{Known};
 ghost use Rattle.hops.specs.Hops.{PagesOk};
@@ -18,7 +20,7 @@ pub struct Traced {
 }
 
 fn least(a: u32, b: u32) -> u32
-    ensures { λ r. ⌜ (r ≤ a) × (r ≤ b) ⌝ }
+    ensures { λ r. ⌜ (r ≡ cond (ltb a b) a b) × ((r ≤ a) × (r ≤ b)) ⌝ }
 {
     if a < b { a } else { b }
 }

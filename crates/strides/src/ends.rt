@@ -24,14 +24,14 @@ pub struct Spot {
 }
 
 fn words(e: &[u32]) -> u32
-    ensures { λ r. ⌜ ((n : ℕ) → getD (now (e .entry)) n 0 < 4294967296) ⌝ }
+    ensures { λ r. ⌜ (r ≡ getD (now (e .entry)) 0 0) × ((n : ℕ) → getD (now (e .entry)) n 0 < 4294967296) ⌝ }
 {
     outcome::register(e, 0)
 }
 
 // The registers are eight dwords: what their type says, for a proof that reads none of them.
 pub fn eight(e: &[u32; 8]) -> u32
-    ensures { λ r. ⌜ (length (now (e .entry)) ≡ 8) × ((n : ℕ) → getD (now (e .entry)) n 0 < 4294967296) ⌝ }
+    ensures { λ r. ⌜ (r ≡ getD (now (e .entry)) 0 0) × ((length (now (e .entry)) ≡ 8) × ((n : ℕ) → getD (now (e .entry)) n 0 < 4294967296)) ⌝ }
 {
     words(e)
 }

@@ -1,4 +1,4 @@
-use Rattle.forms.proofs.Reading.{to-small, from-small}
+use Rattle.shortcut.proofs.Classes.{to-combines, from-combines}
 use borrow.Author.Needs.{needs}
 use Rattle.forms.proofs.read.Statement.{statement}
 use Rattle.forms.proofs.read.Tie as tie
@@ -16,7 +16,7 @@ class-in-requires : tie.Need-class-in-requires
 class-in-requires c κs = search needs
 
 operation-requires : tie.Need-operation-requires
-operation-requires c κs = to-small _ (c .if1 .taken)
+operation-requires c κs = ((c .before .before .before .byte .ensures .1), ((c .before .class-in .ensures), to-combines (c .before .class-in .result) (c .if1 .taken)))
 
 to-operand-requires : tie.Need-to-operand-requires
 to-operand-requires c κs = search needs
@@ -25,7 +25,7 @@ returns : tie.Need-returns
 returns c = search needs
 
 operation-requires-2 : tie.Need-operation-requires-2
-operation-requires-2 c κs = from-small _ (c .if2 .taken)
+operation-requires-2 c κs = ((c .before .before .before .before .byte .ensures .1), ((c .before .before .class-in .ensures), from-combines (c .before .before .class-in .result) (c .if2 .taken)))
 
 from-operand-requires : tie.Need-from-operand-requires
 from-operand-requires c κs = ((c .before .before .before .before .before .before .before .pre .0), ((c .before .before .before .before .before .byte .ensures .0), ((c .before .before .before .before .byte2 .ensures .0), ((c .before .before .before .before .byte2 .ensures .1), ((c .before .before .before .class-in .ensures), ((c .operation2 .ensures), (c .before .if2 .taken)))))))

@@ -31,7 +31,7 @@ least-requires : tie.Need-least-requires Inv-loop μ-loop
 least-requires c κs = search needs
 
 loop-holds : tie.Need-loop-holds Inv-loop μ-loop
-loop-holds c = ((c .least .ensures .0), (omega arith), (c .before .before .before .pre), begun _ _ _ _ _ _ _ _ (c .before .before .before .pre), (c .least .ensures .1))
+loop-holds c = ((c .least .ensures .1 .0), (omega arith), (c .before .before .before .pre), begun _ _ _ _ _ _ _ _ (c .before .before .before .pre), (c .least .ensures .1 .1))
 
 add-unpack : tie.Need-add-unpack Inv-loop μ-loop
 add-unpack c = search needs

@@ -7,7 +7,7 @@ register-requires : tie.Need-register-requires
 register-requires c κs = search needs
 
 returns : tie.Need-returns
-returns c = λ n. omega (arith, (c .before .shared-slice-known .given) n)
+returns c = ((c .register .ensures), λ n. omega (arith, (c .before .shared-slice-known .given) n))
 
 pub words-spec : {M : Type 1} → statement M
 words-spec = tie.close (tie.spec register-requires returns)

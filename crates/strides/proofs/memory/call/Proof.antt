@@ -42,7 +42,7 @@ same-length : tie.Need-same-length
 same-length c = search needs
 
 returns-2 : tie.Need-returns-2
-returns-2 c = let few : (c .before .before .before .before .before .before .before .before .before .before .before .before .before .before .before .before .before .before .before .args .next) < 4294967296 = omega (arith, (c .before .before .before .before .before .before .before .before .before .before .before .before .before .before .before .before .before .before .before .fits .next)) in rw ((c .onward .ensures)) (called-on _ _ ((c .before .before .before .before .before .before .before .before .before .before .before .before .before .before .before .before .before .before .before .args .c)) ((c .before .before .before .before .before .before .before .before .before .before .before .before .before .before .before .before .before .before .before .args .r)) ((c .before .before .before .before .before .before .before .before .before .before .before .before .before .before .before .before .before .before .before .args .h)) _ ((c .before .before .before .before .before .before .before .before .before .before .before .before .before .before .before .before .before .before .before .args .f)) ((c .before .before .before .before .before .before .before .before .before .before .before .before .before .before .before .before .before .before .before .pre .0)) ((c .before .before .before .before .before .before .before .before .before .before .before .before .before .before .before .before .before .before .before .pre .1 .0)) ((c .before .before .before .before .before .before .before .before .before .before .before .before .before .before .before .before .eight .ensures)) ((c .before .before .before .before .before .before .before .before .before .before .before .before .before .before .register .ensures)) ((c .before .before .before .before .before .before .before .before .before .before .before .before .before .wrapping-add-u32 .ensures)) (((c .before .before .before .before .before .before .before .before .before .before .before .before .reach .ensures)) (not-false _ ((c .before .before .before .before .before .before .before .before .before .before .if1 .left)))) few ((c .before .before .before .before .before .before .store .ensures .0)) ((c .before .before .before .before .before .before .before .before .put .ensures)) ((c .before .before .before .before .before .before .store .ensures .1)) ((c .before .before .before .before .before .before .before .before .before .before .before .before .before .before .before .before .before .before .before .pre .1 .1 .1)) ((c .before .before .before .before .before .before .before .before .before .before .before .before .before .before .before .before .before .before .before .pre .1 .1 .0)) refl ((c .before .before .wrapping-add-u322 .ensures)) ((c .before .if2 .taken)))
+returns-2 c = let few : (c .before .before .before .before .before .before .before .before .before .before .before .before .before .before .before .before .before .before .before .args .next) < 4294967296 = omega (arith, (c .before .before .before .before .before .before .before .before .before .before .before .before .before .before .before .before .before .before .before .fits .next)) in rw ((c .onward .ensures)) (called-on _ _ ((c .before .before .before .before .before .before .before .before .before .before .before .before .before .before .before .before .before .before .before .args .c)) ((c .before .before .before .before .before .before .before .before .before .before .before .before .before .before .before .before .before .before .before .args .r)) ((c .before .before .before .before .before .before .before .before .before .before .before .before .before .before .before .before .before .before .before .args .h)) _ ((c .before .before .before .before .before .before .before .before .before .before .before .before .before .before .before .before .before .before .before .args .f)) ((c .before .before .before .before .before .before .before .before .before .before .before .before .before .before .before .before .before .before .before .pre .0)) ((c .before .before .before .before .before .before .before .before .before .before .before .before .before .before .before .before .before .before .before .pre .1 .0)) ((c .before .before .before .before .before .before .before .before .before .before .before .before .before .before .before .before .eight .ensures .1)) ((c .before .before .before .before .before .before .before .before .before .before .before .before .before .before .register .ensures)) ((c .before .before .before .before .before .before .before .before .before .before .before .before .before .wrapping-add-u32 .ensures)) (((c .before .before .before .before .before .before .before .before .before .before .before .before .reach .ensures)) (not-false _ ((c .before .before .before .before .before .before .before .before .before .before .if1 .left)))) few ((c .before .before .before .before .before .before .store .ensures .0)) ((c .before .before .before .before .before .before .before .before .put .ensures)) ((c .before .before .before .before .before .before .store .ensures .1)) ((c .before .before .before .before .before .before .before .before .before .before .before .before .before .before .before .before .before .before .before .pre .1 .1 .1)) ((c .before .before .before .before .before .before .before .before .before .before .before .before .before .before .before .before .before .before .before .pre .1 .1 .0)) refl ((c .before .before .wrapping-add-u322 .ensures)) ((c .before .if2 .taken)))
 
 onward-requires-2 : tie.Need-onward-requires-2
 onward-requires-2 c κs = search needs
@@ -51,7 +51,7 @@ same-length-2 : tie.Need-same-length-2
 same-length-2 c = search needs
 
 returns-3 : tie.Need-returns-3
-returns-3 c = let few : (c .before .before .before .before .before .before .before .before .before .before .before .before .before .before .before .before .before .before .before .args .next) < 4294967296 = omega (arith, (c .before .before .before .before .before .before .before .before .before .before .before .before .before .before .before .before .before .before .before .fits .next)) in rw ((c .onward2 .ensures)) (called-off _ _ ((c .before .before .before .before .before .before .before .before .before .before .before .before .before .before .before .before .before .before .before .args .c)) ((c .before .before .before .before .before .before .before .before .before .before .before .before .before .before .before .before .before .before .before .args .r)) ((c .before .before .before .before .before .before .before .before .before .before .before .before .before .before .before .before .before .before .before .args .h)) _ ((c .before .before .before .before .before .before .before .before .before .before .before .before .before .before .before .before .before .before .before .args .f)) ((c .before .before .before .before .before .before .before .before .before .before .before .before .before .before .before .before .before .before .before .pre .0)) ((c .before .before .before .before .before .before .before .before .before .before .before .before .before .before .before .before .before .before .before .pre .1 .0)) ((c .before .before .before .before .before .before .before .before .before .before .before .before .before .before .before .before .eight .ensures)) ((c .before .before .before .before .before .before .before .before .before .before .before .before .before .before .register .ensures)) ((c .before .before .before .before .before .before .before .before .before .before .before .before .before .wrapping-add-u32 .ensures)) (((c .before .before .before .before .before .before .before .before .before .before .before .before .reach .ensures)) (not-false _ ((c .before .before .before .before .before .before .before .before .before .before .if1 .left)))) few ((c .before .before .before .before .before .before .store .ensures .0)) ((c .before .before .before .before .before .before .before .before .put .ensures)) ((c .before .before .before .before .before .before .store .ensures .1)) ((c .before .before .before .before .before .before .before .before .before .before .before .before .before .before .before .before .before .before .before .pre .1 .1 .1)) ((c .before .before .before .before .before .before .before .before .before .before .before .before .before .before .before .before .before .before .before .pre .1 .1 .0)) refl ((c .before .before .wrapping-add-u322 .ensures)) ((c .before .if2 .left)))
+returns-3 c = let few : (c .before .before .before .before .before .before .before .before .before .before .before .before .before .before .before .before .before .before .before .args .next) < 4294967296 = omega (arith, (c .before .before .before .before .before .before .before .before .before .before .before .before .before .before .before .before .before .before .before .fits .next)) in rw ((c .onward2 .ensures)) (called-off _ _ ((c .before .before .before .before .before .before .before .before .before .before .before .before .before .before .before .before .before .before .before .args .c)) ((c .before .before .before .before .before .before .before .before .before .before .before .before .before .before .before .before .before .before .before .args .r)) ((c .before .before .before .before .before .before .before .before .before .before .before .before .before .before .before .before .before .before .before .args .h)) _ ((c .before .before .before .before .before .before .before .before .before .before .before .before .before .before .before .before .before .before .before .args .f)) ((c .before .before .before .before .before .before .before .before .before .before .before .before .before .before .before .before .before .before .before .pre .0)) ((c .before .before .before .before .before .before .before .before .before .before .before .before .before .before .before .before .before .before .before .pre .1 .0)) ((c .before .before .before .before .before .before .before .before .before .before .before .before .before .before .before .before .eight .ensures .1)) ((c .before .before .before .before .before .before .before .before .before .before .before .before .before .before .register .ensures)) ((c .before .before .before .before .before .before .before .before .before .before .before .before .before .wrapping-add-u32 .ensures)) (((c .before .before .before .before .before .before .before .before .before .before .before .before .reach .ensures)) (not-false _ ((c .before .before .before .before .before .before .before .before .before .before .if1 .left)))) few ((c .before .before .before .before .before .before .store .ensures .0)) ((c .before .before .before .before .before .before .before .before .put .ensures)) ((c .before .before .before .before .before .before .store .ensures .1)) ((c .before .before .before .before .before .before .before .before .before .before .before .before .before .before .before .before .before .before .before .pre .1 .1 .1)) ((c .before .before .before .before .before .before .before .before .before .before .before .before .before .before .before .before .before .before .before .pre .1 .1 .0)) refl ((c .before .before .wrapping-add-u322 .ensures)) ((c .before .if2 .left)))
 
 pub call-spec : {M : Type 1} → statement M
 call-spec =

@@ -40,13 +40,13 @@ onward-requires : tie.Need-onward-requires
 onward-requires c κs = search needs
 
 returns-2 : tie.Need-returns-2
-returns-2 c = let few : (c .before .before .before .before .before .dword .result) < 4294967296 = search needs in rw (c .onward .ensures) (compared _ _ (c .before .before .before .before .before .before .before .before .before .before .before .before .before .before .before .before .before .before .before .args .c) (c .before .before .before .before .before .before .before .before .before .before .before .before .before .before .before .before .before .before .before .args .r) (c .before .before .before .before .before .before .before .before .before .before .before .before .before .before .before .before .before .before .before .args .h) _ (c .before .before .before .before .before .before .before .before .before .before .before .before .before .before .before .before .before .before .before .args .f) (c .before .before .before .before .before .before .before .before .before .before .before .before .before .before .before .before .before .before .before .pre .0) (c .before .before .before .before .before .before .before .before .before .before .before .before .before .before .before .before .before .before .before .pre .1 .0) (c .before .before .before .before .before .before .before .before .before .before .before .before .before .before .before .before .eight .ensures) (c .before .before .before .before .before .before .before .before .before .before .before .before .before .before .spot .ensures) ((c .before .before .before .before .before .before .before .before .before .before .before .before .before .reach .ensures) (not-false _ (c .before .before .before .before .before .before .before .before .before .before .before .if1 .left))) (c .before .before .before .before .before .before .before .before .before .before .before .before .before .before .before .before .before .before .before .pre .1 .1 .1) (c .before .before .before .before .before .before .before .before .before .before .before .before .before .before .before .before .before .before .before .pre .1 .1 .0) (c .before .before .before .before .dwords .result) (c .before .before .before .before .before .before .before .register .ensures) (c .before .before .before .before .before .dword .ensures) few (c .before .before .before .before .dwords .ensures) (c .before .before .if2 .taken))
+returns-2 c = let few : (c .before .before .before .before .before .dword .result) < 4294967296 = search needs in rw (c .onward .ensures) (compared _ _ (c .before .before .before .before .before .before .before .before .before .before .before .before .before .before .before .before .before .before .before .args .c) (c .before .before .before .before .before .before .before .before .before .before .before .before .before .before .before .before .before .before .before .args .r) (c .before .before .before .before .before .before .before .before .before .before .before .before .before .before .before .before .before .before .before .args .h) _ (c .before .before .before .before .before .before .before .before .before .before .before .before .before .before .before .before .before .before .before .args .f) (c .before .before .before .before .before .before .before .before .before .before .before .before .before .before .before .before .before .before .before .pre .0) (c .before .before .before .before .before .before .before .before .before .before .before .before .before .before .before .before .before .before .before .pre .1 .0) (c .before .before .before .before .before .before .before .before .before .before .before .before .before .before .before .before .eight .ensures .1) (c .before .before .before .before .before .before .before .before .before .before .before .before .before .before .spot .ensures) ((c .before .before .before .before .before .before .before .before .before .before .before .before .before .reach .ensures) (not-false _ (c .before .before .before .before .before .before .before .before .before .before .before .if1 .left))) (c .before .before .before .before .before .before .before .before .before .before .before .before .before .before .before .before .before .before .before .pre .1 .1 .1) (c .before .before .before .before .before .before .before .before .before .before .before .before .before .before .before .before .before .before .before .pre .1 .1 .0) (c .before .before .before .before .dwords .result) (c .before .before .before .before .before .before .before .register .ensures) (c .before .before .before .before .before .dword .ensures) few (c .before .before .before .before .dwords .ensures) (c .before .before .if2 .taken))
 
 wrote-requires : tie.Need-wrote-requires
 wrote-requires c κs = (c .before .before .before .before .before .before .before .before .before .before .before .before .before .before .before .before .before .before .pre .1 .0 .1 .a)
 
 returns-3 : tie.Need-returns-3
-returns-3 c = let few : (c .before .before .before .before .before .dword .result) < 4294967296 = search needs in rw (c .wrote .ensures .1) (combined _ _ (c .before .before .before .before .before .before .before .before .before .before .before .before .before .before .before .before .before .before .before .args .c) (c .before .before .before .before .before .before .before .before .before .before .before .before .before .before .before .before .before .before .before .args .r) (c .before .before .before .before .before .before .before .before .before .before .before .before .before .before .before .before .before .before .before .args .h) _ (c .before .before .before .before .before .before .before .before .before .before .before .before .before .before .before .before .before .before .before .args .f) (c .before .before .before .before .before .before .before .before .before .before .before .before .before .before .before .before .before .before .before .pre .0) (c .before .before .before .before .before .before .before .before .before .before .before .before .before .before .before .before .before .before .before .pre .1 .0) (c .before .before .before .before .before .before .before .before .before .before .before .before .before .before .before .before .eight .ensures) (c .before .before .before .before .before .before .before .before .before .before .before .before .before .before .spot .ensures) ((c .before .before .before .before .before .before .before .before .before .before .before .before .before .reach .ensures) (not-false _ (c .before .before .before .before .before .before .before .before .before .before .before .if1 .left))) (c .before .before .before .before .before .before .before .before .before .before .before .before .before .before .before .before .before .before .before .pre .1 .1 .1) (c .before .before .before .before .before .before .before .before .before .before .before .before .before .before .before .before .before .before .before .pre .1 .1 .0) (c .before .before .before .before .dwords .result) (c .before .before .before .before .before .before .before .register .ensures) (c .before .before .before .before .before .dword .ensures) few (c .before .before .before .before .dwords .ensures) (c .before .before .if2 .left) (c .wrote .ensures .0))
+returns-3 c = let few : (c .before .before .before .before .before .dword .result) < 4294967296 = search needs in rw (c .wrote .ensures .1) (combined _ _ (c .before .before .before .before .before .before .before .before .before .before .before .before .before .before .before .before .before .before .before .args .c) (c .before .before .before .before .before .before .before .before .before .before .before .before .before .before .before .before .before .before .before .args .r) (c .before .before .before .before .before .before .before .before .before .before .before .before .before .before .before .before .before .before .before .args .h) _ (c .before .before .before .before .before .before .before .before .before .before .before .before .before .before .before .before .before .before .before .args .f) (c .before .before .before .before .before .before .before .before .before .before .before .before .before .before .before .before .before .before .before .pre .0) (c .before .before .before .before .before .before .before .before .before .before .before .before .before .before .before .before .before .before .before .pre .1 .0) (c .before .before .before .before .before .before .before .before .before .before .before .before .before .before .before .before .eight .ensures .1) (c .before .before .before .before .before .before .before .before .before .before .before .before .before .before .spot .ensures) ((c .before .before .before .before .before .before .before .before .before .before .before .before .before .reach .ensures) (not-false _ (c .before .before .before .before .before .before .before .before .before .before .before .if1 .left))) (c .before .before .before .before .before .before .before .before .before .before .before .before .before .before .before .before .before .before .before .pre .1 .1 .1) (c .before .before .before .before .before .before .before .before .before .before .before .before .before .before .before .before .before .before .before .pre .1 .1 .0) (c .before .before .before .before .dwords .result) (c .before .before .before .before .before .before .before .register .ensures) (c .before .before .before .before .before .dword .ensures) few (c .before .before .before .before .dwords .ensures) (c .before .before .if2 .left) (c .wrote .ensures .0))
 
 pub combine-spec : {M : Type 1} → statement M
 combine-spec =

@@ -36,7 +36,7 @@ same-length : tie.Need-same-length
 same-length c = search needs
 
 returns-2 : tie.Need-returns-2
-returns-2 c = let bytes : (n : ℕ) → getD (c .before .before .before .before .before .before .before .before .before .before .before .before .before .args .mem .now) n 0 < 256 = λ n. omega (arith, (c .before .before .before .before .before .before .before .before .before .before .before .before .slice-known .given) n) in rw (c .onward .ensures) (kept _ _ (c .before .before .before .before .before .before .before .before .before .before .before .before .before .args .c) (c .before .before .before .before .before .before .before .before .before .before .before .before .before .args .r) (c .before .before .before .before .before .before .before .before .before .before .before .before .before .args .h) _ (c .before .before .before .before .before .before .before .before .before .before .before .before .before .args .f) (c .before .before .before .before .before .before .before .before .before .before .before .before .before .pre .0) (c .before .before .before .before .before .before .before .before .before .before .before .before .before .pre .1 .0) (c .before .before .before .before .before .before .before .before .before .before .before .eight .ensures) (c .before .before .before .before .before .before .before .before .before .before .before .before .before .pre .1 .1 .0) bytes (c .before .before .before .before .before .before .before .before .before .before .spot .ensures) ((c .before .before .before .before .before .before .before .before .before .reach .ensures) (not-false _ (c .before .before .before .before .before .before .before .if1 .left))) (c .before .before .before .before .before .register .ensures) (c .before .before .before .before .store .ensures .0) (c .before .before .before .before .store .ensures .1) (c .before .before .before .before .before .before .before .before .before .before .before .before .before .pre .1 .1 .1))
+returns-2 c = let bytes : (n : ℕ) → getD (c .before .before .before .before .before .before .before .before .before .before .before .before .before .args .mem .now) n 0 < 256 = λ n. omega (arith, (c .before .before .before .before .before .before .before .before .before .before .before .before .slice-known .given) n) in rw (c .onward .ensures) (kept _ _ (c .before .before .before .before .before .before .before .before .before .before .before .before .before .args .c) (c .before .before .before .before .before .before .before .before .before .before .before .before .before .args .r) (c .before .before .before .before .before .before .before .before .before .before .before .before .before .args .h) _ (c .before .before .before .before .before .before .before .before .before .before .before .before .before .args .f) (c .before .before .before .before .before .before .before .before .before .before .before .before .before .pre .0) (c .before .before .before .before .before .before .before .before .before .before .before .before .before .pre .1 .0) (c .before .before .before .before .before .before .before .before .before .before .before .eight .ensures .1) (c .before .before .before .before .before .before .before .before .before .before .before .before .before .pre .1 .1 .0) bytes (c .before .before .before .before .before .before .before .before .before .before .spot .ensures) ((c .before .before .before .before .before .before .before .before .before .reach .ensures) (not-false _ (c .before .before .before .before .before .before .before .if1 .left))) (c .before .before .before .before .before .register .ensures) (c .before .before .before .before .store .ensures .0) (c .before .before .before .before .store .ensures .1) (c .before .before .before .before .before .before .before .before .before .before .before .before .before .pre .1 .1 .1))
 
 pub keep-spec : {M : Type 1} → statement M
 keep-spec =

@@ -38,7 +38,7 @@ same-length : tie.Need-same-length
 same-length c = search needs
 
 returns-2 : tie.Need-returns-2
-returns-2 c = let few : (c .before .before .before .before .before .before .before .before .before .before .before .before .before .before .before .before .before .args .v) < 4294967296 = omega (arith, (c .before .before .before .before .before .before .before .before .before .before .before .before .before .before .before .before .before .fits .v)) in rw ((c .onward .ensures)) (pushed-to _ _ ((c .before .before .before .before .before .before .before .before .before .before .before .before .before .before .before .before .before .args .c)) ((c .before .before .before .before .before .before .before .before .before .before .before .before .before .before .before .before .before .args .r)) ((c .before .before .before .before .before .before .before .before .before .before .before .before .before .before .before .before .before .args .h)) _ ((c .before .before .before .before .before .before .before .before .before .before .before .before .before .before .before .before .before .args .f)) ((c .before .before .before .before .before .before .before .before .before .before .before .before .before .before .before .before .before .pre .0)) ((c .before .before .before .before .before .before .before .before .before .before .before .before .before .before .before .before .before .pre .1 .0)) ((c .before .before .before .before .before .before .before .before .before .before .before .before .before .before .eight .ensures)) ((c .before .before .before .before .before .before .before .before .before .before .before .before .register .ensures)) ((c .before .before .before .before .before .before .before .before .before .before .before .wrapping-add-u32 .ensures)) (((c .before .before .before .before .before .before .before .before .before .before .reach .ensures)) (not-false _ ((c .before .before .before .before .before .before .before .before .if1 .left)))) few ((c .before .before .before .before .store .ensures .0)) ((c .before .before .before .before .before .before .put .ensures)) ((c .before .before .before .before .store .ensures .1)) ((c .before .before .before .before .before .before .before .before .before .before .before .before .before .before .before .before .before .pre .1 .1 .1)) ((c .before .before .before .before .before .before .before .before .before .before .before .before .before .before .before .before .before .pre .1 .1 .0)))
+returns-2 c = let few : (c .before .before .before .before .before .before .before .before .before .before .before .before .before .before .before .before .before .args .v) < 4294967296 = omega (arith, (c .before .before .before .before .before .before .before .before .before .before .before .before .before .before .before .before .before .fits .v)) in rw ((c .onward .ensures)) (pushed-to _ _ ((c .before .before .before .before .before .before .before .before .before .before .before .before .before .before .before .before .before .args .c)) ((c .before .before .before .before .before .before .before .before .before .before .before .before .before .before .before .before .before .args .r)) ((c .before .before .before .before .before .before .before .before .before .before .before .before .before .before .before .before .before .args .h)) _ ((c .before .before .before .before .before .before .before .before .before .before .before .before .before .before .before .before .before .args .f)) ((c .before .before .before .before .before .before .before .before .before .before .before .before .before .before .before .before .before .pre .0)) ((c .before .before .before .before .before .before .before .before .before .before .before .before .before .before .before .before .before .pre .1 .0)) ((c .before .before .before .before .before .before .before .before .before .before .before .before .before .before .eight .ensures .1)) ((c .before .before .before .before .before .before .before .before .before .before .before .before .register .ensures)) ((c .before .before .before .before .before .before .before .before .before .before .before .wrapping-add-u32 .ensures)) (((c .before .before .before .before .before .before .before .before .before .before .reach .ensures)) (not-false _ ((c .before .before .before .before .before .before .before .before .if1 .left)))) few ((c .before .before .before .before .store .ensures .0)) ((c .before .before .before .before .before .before .put .ensures)) ((c .before .before .before .before .store .ensures .1)) ((c .before .before .before .before .before .before .before .before .before .before .before .before .before .before .before .before .before .pre .1 .1 .1)) ((c .before .before .before .before .before .before .before .before .before .before .before .before .before .before .before .before .before .pre .1 .1 .0)))
 
 pub push-spec : {M : Type 1} → statement M
 push-spec =
