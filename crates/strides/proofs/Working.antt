@@ -1,7 +1,7 @@
 -- A form that needs no memory, carried out.
 -- Assumes nothing.
 use Prim.Native.Nat.{ℕ, _+_, _-_, _/_, _%_, _<_}
-use mathlib.Core.Path.{_≡_, refl, _∙_}
+use mathlib.Core.Path.{_≡_, refl, sym, _∙_}
 use mathlib.Core.Bool.{Bool, true, false, cond}
 use mathlib.Core.List.{List}
 use native.Mathlib.Omega.{arith}
@@ -11,6 +11,7 @@ use lib.ListN.{length, getD, set}
 use Rattle.alu.specs.declared.Status.{Status}
 use Rattle.alu.specs.declared.brief.Brief.{Brief}
 use Rattle.alu.specs.declared.brief.Short.{Short}
+use Rattle.alu.specs.Arithmetic.{writes}
 use Rattle.alu.specs.Brief.{statusIn, outIn}
 use Rattle.machine.specs.declared.Control.{Control}
 use Rattle.machine.specs.Record.{Mem, wrap, readAt, withRegister, writeAt}
@@ -34,28 +35,25 @@ use Rattle.strides.proofs.Standing.{fast}
 -- ---- what a form means
 
 module _ (f : Form) (e : List ℕ) (eip : ℕ) (s : Status) where
-  pub by-register : (op to : ℕ) {x y : ℕ} → f .kind ≡ op → op / 16 ≡ 0 → taking op (f .a) ≡ to → x ≡ reg e (f .a) → y ≡ reg e (f .b)
-      → meant f e eip s ≡ working op true 0 0 x y to (nextIn f eip)
+  pub by-register : (op : ℕ) {x y : ℕ} → f .kind ≡ op → op < 16 → x ≡ reg e (f .a) → y ≡ reg e (f .b)
+      → meant f e eip s ≡ working op true 0 0 x y (taking op (f .a)) (nextIn f eip)
   unfolding meant
-  by-register op to k l t ex ey = rw (k, l, t, ex, ey)
+  by-register op k l ex ey = let o : op / 16 ≡ 0 = omega (arith, l) in rw (k, o, ex, ey)
 
-  pub by-number : (op to : ℕ) {x : ℕ} → f .kind ≡ op + 16 → (op + 16) / 16 ≡ 1 → taking op (f .a) ≡ to → eqb op 9 ≡ false → x ≡ reg e (f .a)
-      → meant f e eip s ≡ working op true 0 0 x (f .number) to (nextIn f eip)
+  pub by-number : (op : ℕ) {x : ℕ} → f .kind ≡ op + 16 → op < 16 → x ≡ reg e (f .a)
+      → meant f e eip s ≡ working op true 0 0 (cond (eqb op 9) 0 x) (f .number) (taking op (f .a)) (nextIn f eip)
   unfolding meant
-  by-number op to k l t n ex = let o : op + 16 - 16 ≡ op = omega arith in rw (k, l, o, t, n, ex)
+  by-number op k l ex =
+      let z : (op + 16) / 16 ≡ 1 = omega (arith, l) in
+      let o : op + 16 - 16 ≡ op = omega arith in
+      rw (k, z, o, ex)
 
-  -- the operation by the kind's name
-  pub by-count : (op : ℕ) {x : ℕ} → f .kind ≡ op + 16 → (op + 16) / 16 ≡ 1 → taking op (f .a) ≡ f .a → eqb op 9 ≡ false → x ≡ reg e (f .a)
-      → meant f e eip s ≡ working (f .kind - 16) true 0 0 x (f .number) (f .a) (nextIn f eip)
-  by-count op k l t n ex = let o : f .kind - 16 ≡ op = omega (arith, k) in rw o (by-number op (f .a) k l t n ex)
-
-  pub move-number : f .kind ≡ 25 → meant f e eip s ≡ working 9 true 0 0 0 (f .number) (f .a) (nextIn f eip)
+  pub on-condition : (n : ℕ) {b : Bool} → f .kind ≡ n + 48 → n < 16 → b ≡ holds n s → meant f e eip s ≡ jumpFast (cond b (target f eip) (nextIn f eip))
   unfolding meant
-  move-number k = rw k
-
-  pub on-condition : (n : ℕ) {b : Bool} → f .kind ≡ n + 48 → (n + 48) / 16 ≡ 3 → b ≡ holds n s → meant f e eip s ≡ jumpFast (cond b (target f eip) (nextIn f eip))
-  unfolding meant
-  on-condition n k l eb = let o : n + 48 - 48 ≡ n = omega arith in rw (k, l, o, eb)
+  on-condition n k l eb =
+      let z : (n + 48) / 16 ≡ 3 = omega (arith, l) in
+      let o : n + 48 - 48 ≡ n = omega arith in
+      rw (k, z, o, eb)
 
   pub a-jump : f .kind ≡ 69 → meant f e eip s ≡ jumpFast (target f eip)
   unfolding meant
@@ -83,8 +81,16 @@ module _ (f : Form) (e : List ℕ) (eip : ℕ) (s : Status) where
 abbrev ended : ℕ → ℕ → Brief → Ended
 ended status eip g = record { status = status; rest = record { eip = eip; flags = g } }
 
+-- MOV of a number takes it whatever the register holds
+pub left-free : (op x y : ℕ) (s : Status) → x < 4294967296 → y < 4294967296 → outOf op true x y s ≡ outOf op true (cond (eqb op 9) 0 x) y s
+left-free op x y s hx hy = by (eqb op 9) refl
+  where
+    by : (b : Bool) → eqb op 9 ≡ b → outOf op true x y s ≡ outOf op true (cond b 0 x) y s
+    by true k = sym (move-out op x y true s hx hy (rw k refl)) ∙ move-out op 0 y true s (omega arith) hy (rw k refl)
+    by false k = refl
+
 module _ (m : Mem) (e : List ℕ) (c : Control) (r : Rest) (h : Kept) (d : List ℕ) (f : Form) (stands : Stands m c h d r) where
-  module _ (here : Here m h r f) {v : ℕ} (ev : v ≡ reg e (f .b)) (whole : v < 4294967296) (eight : length e ≡ 8) where
+  module _ (here : Here m h r f) (whole : reg e (f .b) < 4294967296) (eight : length e ≡ 8) where
     abbrev s : Status
     s = statusIn (r .flags)
 
@@ -92,7 +98,7 @@ module _ (m : Mem) (e : List ℕ) (c : Control) (r : Rest) (h : Kept) (d : List 
     next = nextIn f (r .eip)
 
     is-there : {p : Fast} → meant f e (r .eip) s ≡ p → FastOk m e s (r .eip) (h .base + r .eip % 4096) p
-    is-there {p} ep = fast m e c r h d f here (rw ev at whole) eight p ep
+    is-there {p} ep = fast m e c r h d f here whole eight p ep
 
     -- the instruction after it follows
     on-next : {e′ : List ℕ} {w : Ended} {n : ℕ} (g : Brief) → n ≡ next → w ≡ ended 0 n g → SwiftOk m e c r h m e′ d (record { done = true; holds = true; rest = record { eip = next; flags = g } })
@@ -107,11 +113,15 @@ module _ (m : Mem) (e : List ℕ) (c : Control) (r : Rest) (h : Kept) (d : List 
         (few-hopped m e c r h d (stands .pages .0) (stands .size) (stands .small) (stands .page) (stands .room) _ p refl (is-there ep) (record { eip = next; flags = o .flags })
         (record { found = true; at = 0; value = 0; x = x; y = y }) refl (none-reached m c p _ refl refl refl refl) (omega arith) (omega arith) (of-operands p (record { found = true; at = 0; value = 0; x = x; y = y }) s (refl, refl) eo) ee refl refl (stands .pages))
 
-    -- the result goes to a register
-    pub to-register : {op x y n : ℕ} {e′ : List ℕ} {w : Ended} (o : Short) → meant f e (r .eip) s ≡ working op true 0 0 x y (f .a) next → outIn o ≡ outOf op true x y s
-        → e′ ≡ set e (f .a) (o .value) → n ≡ next → w ≡ ended 0 n (o .flags) → EndedOk m e c r h d f m e′ w
+    -- the result goes to a register, unless it is CMP or TEST
+    put-away : (op x y v : ℕ) (b : Bool) → cond b (set e (f .a) v) e ≡ depositOf (working op true 0 0 x y (cond b (f .a) 8) next) (file e) v .e
     unfolding depositOf writeAt
-    to-register o ep eo ee en ew = worked o ep eo (ee ∙ rw (lt-ltb (f .a) 8 (here .1 .a))) en ew
+    put-away op x y v true = rw (lt-ltb (f .a) 8 (here .1 .a))
+    put-away op x y v false = refl
+
+    pub settled : {op x y n : ℕ} {e′ : List ℕ} {w : Ended} (o : Short) → meant f e (r .eip) s ≡ working op true 0 0 x y (taking op (f .a)) next → outIn o ≡ outOf op true x y s
+        → e′ ≡ cond (writes op) (set e (f .a) (o .value)) e → n ≡ next → w ≡ ended 0 n (o .flags) → EndedOk m e c r h d f m e′ w
+    settled {op} {x} {y} o ep eo ee en ew = worked o ep eo (ee ∙ put-away op x y (o .value) (writes op)) en ew
 
     -- or nowhere
     pub to-none : {op x y n : ℕ} {wide : Bool} {w : Ended} (o : Short) → meant f e (r .eip) s ≡ working op wide 0 0 x y 8 next → outIn o ≡ outOf op wide x y s
@@ -121,7 +131,7 @@ module _ (m : Mem) (e : List ℕ) (c : Control) (r : Rest) (h : Kept) (d : List 
 
     pub moves : {x y n : ℕ} {e′ : List ℕ} {w : Ended} → meant f e (r .eip) s ≡ working 9 true 0 0 x y (f .a) next → x < 4294967296 → y < 4294967296
         → e′ ≡ set e (f .a) y → n ≡ next → w ≡ ended 0 n (r .flags) → EndedOk m e c r h d f m e′ w
-    moves {x} {y} ep hx hy ee en ew = to-register (record { value = y; flags = r .flags }) ep (move-out 9 x y true s hx hy refl) ee en ew
+    moves {x} {y} ep hx hy ee en ew = settled (record { value = y; flags = r .flags }) ep (move-out 9 x y true s hx hy refl) ee en ew
 
     -- jumps, taken or not
     jumping : {t : ℕ} → meant f e (r .eip) s ≡ jumpFast t → SwiftOk m e c r h m e d (record { done = true; holds = true; rest = record { eip = t; flags = r .flags } })
@@ -129,10 +139,12 @@ module _ (m : Mem) (e : List ℕ) (c : Control) (r : Rest) (h : Kept) (d : List 
     jumping {t} ep =
         jumped m e c r h d (stands .pages .0) (stands .size) (stands .small) (stands .page) (stands .room) _ (jumpFast t) refl (is-there ep) (record { eip = t; flags = r .flags }) refl refl refl refl (stands .pages)
 
-    pub branches : (b : Bool) {n t : ℕ} {w : Ended} → meant f e (r .eip) s ≡ jumpFast (cond b (target f (r .eip)) next) → n ≡ next → t ≡ wrap (n + f .number)
-        → w ≡ ended (cond b 2 0) (cond b t n) (r .flags) → EndedOk m e c r h d f m e w
-    branches true ep en et ew = rw (ew, et, en) (record { swift = jumping ep; follows = λ z. absurd (omega (arith, z)) })
-    branches false ep en et ew = on-next (r .flags) en ew (jumping ep)
+    pub jumps : {n t : ℕ} {w : Ended} → meant f e (r .eip) s ≡ jumpFast (target f (r .eip)) → n ≡ next → t ≡ wrap (n + f .number)
+        → w ≡ ended 2 t (r .flags) → EndedOk m e c r h d f m e w
+    jumps ep en et ew = rw (ew, et, en) (record { swift = jumping ep; follows = λ z. absurd (omega (arith, z)) })
+
+    pub goes-on : {n : ℕ} {w : Ended} → meant f e (r .eip) s ≡ jumpFast next → n ≡ next → w ≡ ended 0 n (r .flags) → EndedOk m e c r h d f m e w
+    goes-on ep en ew = on-next (r .flags) en ew (jumping ep)
 
     -- MUL
     pub doubles : {x n : ℕ} {e′ : List ℕ} {w : Ended} → f .kind ≡ 75 → x ≡ reg e (f .b)

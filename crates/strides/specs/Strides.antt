@@ -37,3 +37,7 @@ swiftIn w = record { done = not (eqb (w .status) 1); holds = not (eqb (w .status
 pub record EndedOk (m : Mem) (e : List ℕ) (c : Control) (r : Rest) (h : Kept) (d : List ℕ) (f : Form) (m′ : Mem) (e′ : List ℕ) (w : Ended) : Type 0 where
   pub swift : SwiftOk m e c r h m′ e′ d (swiftIn w)
   pub follows : w .status ≡ 0 → (w .rest .eip ≡ wrap (r .eip + f .length)) × ((length m′ ≡ length m) × (Agree m m′ (h .base / 4096)))
+
+-- what a form that needs no memory ends with, wherever it stands
+abbrev pub Aside : List ℕ → Rest → Form → List ℕ → Ended → Type 0
+Aside e r f e′ w = (m : Mem) (c : Control) (h : Kept) (d : List ℕ) → Stands m c h d r → Here m h r f → EndedOk m e c r h d f m e′ w

@@ -4,7 +4,7 @@ ghost use mathlib.Core.Bool.{true, false, not, cond};
 ghost use Prim.Native.Nat.{ℕ, _+_, _/_, _%_, _<_, _≤_};
 ghost use lib.ListN.{length, getD, set};
 ghost use lib.Dec.{eqb};
-ghost use Rattle.machine.specs.Record.{Mem, readAt, writeAt};
+ghost use Rattle.machine.specs.Record.{Mem, readAt, writeAt, wrap};
 ghost use Rattle.machine.specs.declared.Control.{Control};
 ghost use Rattle.keptpages.specs.Quiet.{HeldOk, Quiet, Agree};
 ghost use Rattle.outcome.specs.Outcome.{file};
@@ -91,16 +91,6 @@ pub fn wrote(e: &mut [u32; 8], n: u32, eip: u32, o: Short) -> Ended
     put(e, n, o.value);
     let g = o.flags;
     onward(eip, g, 0)
-}
-
-// A condition's jump. Where it is not taken the block goes on.
-pub fn branch(taken: bool, next: u32, target: u32, f: Brief) -> Ended
-    ensures { λ w. ⌜ w ≡ record { status = cond taken 2 0; rest = record { eip = cond taken target next; flags = f } } ⌝ }
-{
-    if taken {
-        return onward(target, f, 2);
-    }
-    onward(next, f, 0)
 }
 
 // Where the dword at l lies, if all of it is on a page that is at hand.

@@ -115,7 +115,7 @@ pub fn from_byte(
         crate::ends::put_byte(e, f.a, y % 256);
         return onward(next, s, 0);
     }
-    let o = crate::results::compared_bytes(crate::ends::byte_register(e, f.a), y % 256, s);
+    let o = outcome::bytes(7, crate::ends::byte_register(e, f.a), y % 256, s);
     let g = o.flags;
     onward(next, g, 0)
 }

@@ -38,14 +38,14 @@ returns-2 c = rw (c .onward .ensures) (byte-loaded _ _ (c .before .before .befor
 byte-register-requires : tie.Need-byte-register-requires
 byte-register-requires c κs = search needs
 
-compared-bytes-requires : tie.Need-compared-bytes-requires
-compared-bytes-requires c κs = search needs
+bytes-requires : tie.Need-bytes-requires
+bytes-requires c κs = search needs
 
 onward-requires-2 : tie.Need-onward-requires-2
 onward-requires-2 c κs = search needs
 
 returns-3 : tie.Need-returns-3
-returns-3 c = rw (c .onward2 .ensures) (byte-compared _ _ (c .before .before .before .before .before .before .before .before .before .before .before .before .before .before .before .before .before .before .args .c) (c .before .before .before .before .before .before .before .before .before .before .before .before .before .before .before .before .before .before .args .r) (c .before .before .before .before .before .before .before .before .before .before .before .before .before .before .before .before .before .before .args .h) _ (c .before .before .before .before .before .before .before .before .before .before .before .before .before .before .before .before .before .before .args .f) (c .before .before .before .before .before .before .before .before .before .before .before .before .before .before .before .before .before .before .pre .0) (c .before .before .before .before .before .before .before .before .before .before .before .before .before .before .before .before .before .before .pre .1 .0) (c .before .before .before .before .before .before .before .before .before .before .before .before .before .before .before .eight .ensures .1) (c .before .before .before .before .before .before .before .before .before .before .before .before .before .spot .ensures) ((c .before .before .before .before .before .before .before .before .before .before .before .before .reach .ensures) (not-false _ (c .before .before .before .before .before .before .before .before .before .before .if1 .left))) (c .before .before .before .before .before .before .before .before .before .before .before .before .before .before .before .before .before .before .pre .1 .1 .1) (c .before .before .before .before .before .before .before .before .byte-at .ensures .0) (c .before .before .before .before .before .before .before .before .byte-at .ensures .1) (c .before .before .before .before .before .before .before .before .before .before .before .before .before .before .before .before .before .before .pre .1 .1 .0) (c .before .before .before .before .before .if2 .left) (c .before .before .compared-bytes .result) (c .before .before .before .byte-register .ensures .0) (c .before .before .compared-bytes .ensures))
+returns-3 c = rw (c .onward2 .ensures) (byte-compared _ _ (c .before .before .before .before .before .before .before .before .before .before .before .before .before .before .before .before .before .before .args .c) (c .before .before .before .before .before .before .before .before .before .before .before .before .before .before .before .before .before .before .args .r) (c .before .before .before .before .before .before .before .before .before .before .before .before .before .before .before .before .before .before .args .h) _ (c .before .before .before .before .before .before .before .before .before .before .before .before .before .before .before .before .before .before .args .f) (c .before .before .before .before .before .before .before .before .before .before .before .before .before .before .before .before .before .before .pre .0) (c .before .before .before .before .before .before .before .before .before .before .before .before .before .before .before .before .before .before .pre .1 .0) (c .before .before .before .before .before .before .before .before .before .before .before .before .before .before .before .eight .ensures .1) (c .before .before .before .before .before .before .before .before .before .before .before .before .before .spot .ensures) ((c .before .before .before .before .before .before .before .before .before .before .before .before .reach .ensures) (not-false _ (c .before .before .before .before .before .before .before .before .before .before .if1 .left))) (c .before .before .before .before .before .before .before .before .before .before .before .before .before .before .before .before .before .before .pre .1 .1 .1) (c .before .before .before .before .before .before .before .before .byte-at .ensures .0) (c .before .before .before .before .before .before .before .before .byte-at .ensures .1) (c .before .before .before .before .before .before .before .before .before .before .before .before .before .before .before .before .before .before .pre .1 .1 .0) (c .before .before .before .before .before .if2 .left) (c .before .before .bytes .result) (c .before .before .before .byte-register .ensures .0) (c .before .before .bytes .ensures))
 
 pub from-byte-spec : {M : Type 1} → statement M
 from-byte-spec =
@@ -62,6 +62,6 @@ from-byte-spec =
     onward-requires
     returns-2
     byte-register-requires
-    compared-bytes-requires
+    bytes-requires
     onward-requires-2
     returns-3)
