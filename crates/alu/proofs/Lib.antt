@@ -1,3 +1,4 @@
 pub mod Laws
+pub mod Carries
 pub mod Showing
 pub mod Operations

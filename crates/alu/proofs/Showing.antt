@@ -1,26 +1,26 @@
 -- Which dword shows a byte's flags, and which one shows flags that are given.
 -- Assumes nothing.
-use Prim.Native.Nat.{ℕ, _+_, _%_, _<_, _≤_}
+use Prim.Native.Nat.{ℕ, _+_, _*_, _/_, _%_, _<_, _≤_}
 use native.Mathlib.Omega.{arith}
 use mathlib.Core.Path.{_≡_, refl, sym, subst}
-use mathlib.Core.Bool.{Bool, true, false, false≢true}
+use mathlib.Core.Bool.{Bool, true, false, not, Bool·beq, false≢true}
 use lib.Count.{ones}
 use lib.Dec.{ltb, leb, eqb}
 use borrow.Author.Tests.{ltb-true, ltb-false, le-leb, lt-leb, ne-eqb}
+use Rattle.alu.proofs.Carries.{byte-place, byte-top}
 use Rattle.alu.specs.declared.Status.{Status}
+use Rattle.alu.specs.declared.brief.Brief.{Brief}
 use Rattle.alu.specs.Arithmetic.{parity, isZero, sign, signedByte}
-use Rattle.alu.specs.Brief.{statusIn, outIn, tellable}
+use Rattle.alu.specs.Brief.{seeing, carryOut, statusIn, tellable}
 
 -- a byte with its sign shows the byte's zero, sign and parity
 pub byte-status : (cf af of : Bool) (r : ℕ) → r < 256
-    → statusIn (record { cf = cf; af = af; of = of; seen = signedByte r })
-    ≡ record { cf = cf; pf = parity r; af = af; zf = isZero r; sf = sign 8 r; of = of }
+    → seeing cf af of (signedByte r) ≡ record { cf = cf; pf = parity r; af = af; zf = isZero r; sf = sign 8 r; of = of }
 unfolding parity
 byte-status cf af of r h = by (ltb r 128) refl
   where
     by : (b : Bool) → ltb r 128 ≡ b
-        → statusIn (record { cf = cf; af = af; of = of; seen = signedByte r })
-        ≡ record { cf = cf; pf = parity r; af = af; zf = isZero r; sf = sign 8 r; of = of }
+        → seeing cf af of (signedByte r) ≡ record { cf = cf; pf = parity r; af = af; zf = isZero r; sf = sign 8 r; of = of }
     by true e =
         let k : r < 128 = ltb-true _ _ e in
         let n : leb 2147483648 r ≡ false = lt-leb 2147483648 r (omega (arith, k)) in
@@ -35,13 +35,13 @@ byte-status cf af of r h = by (ltb r 128) refl
         let x : eqb (r + 4294967040) 0 ≡ false = ne-eqb (r + 4294967040) 0 (λ q. omega (arith, q)) in
         rw (e, n, m, z, y, x)
 
-pub byte-out : (cf af of : Bool) (r x : ℕ) → r < 256 → x ≡ signedByte r
-    → outIn (record { value = r; flags = record { cf = cf; af = af; of = of; seen = x } })
-    ≡ record { value = r; status = record { cf = cf; pf = parity r; af = af; zf = isZero r; sf = sign 8 r; of = of } }
-byte-out cf af of r x h e = rw (e, byte-status cf af of r h)
+-- the flags of an operation of bytes, whose carries into its places are those of m
+pub byte-brief : (f : Brief) (cf : Bool) (m r : ℕ) → m < 256 → r < 256 → carryOut f ≡ cf → f .into ≡ m % 256 * 16777217 → f .seen ≡ signedByte r
+    → statusIn f ≡ record { cf = cf; pf = parity r; af = eqb (m / 16 % 2) 1; zf = isZero r; sf = sign 8 r; of = not (Bool·beq (leb 128 m) cf) }
+byte-brief f cf m r hm hr ec ei es = rw (ec, ei, es, byte-place m, byte-top m hm) (byte-status cf _ _ r hr)
 
 abbrev pub Shows : Status → ℕ → Type 0
-Shows s r = tellable s ≡ true → statusIn (record { cf = s .cf; af = s .af; of = s .of; seen = r }) ≡ s
+Shows s r = tellable s ≡ true → seeing (s .cf) (s .af) (s .of) r ≡ s
 
 module _ (s : Status) where
   abbrev with : Bool → Bool → Bool → Status

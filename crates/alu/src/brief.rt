@@ -3,15 +3,15 @@ ghost use mathlib.Core.Path.{_≡_};
 ghost use mathlib.Core.Bool.{Bool, true, false};
 ghost use Prim.Native.Nat.{_+_, _-_, _*_, _/_, _%_, _^_, _<_, _≤_};
 ghost use Rattle.alu.specs.Arithmetic.{bit, sum, difference, logic, keepCarry};
-ghost use Rattle.alu.specs.Brief.{statusIn, outIn, tellable};
+ghost use Rattle.alu.specs.Brief.{statusIn, outIn, tellable, seeing};
 use crate::Out;
 use crate::Status;
 
-// CF, AF and OF, and the dword that shows ZF, SF and PF.
+// The carry out of the operation's top place, the carries into its places, and the dword that shows ZF, SF and PF (specs/Brief). All are dwords, so that
+// there is no room between them that would be copied with them.
 pub struct Brief {
-    pub cf: bool,
-    pub af: bool,
-    pub of: bool,
+    pub out: u32,
+    pub into: u32,
     pub seen: u32,
 }
 
@@ -20,17 +20,36 @@ pub struct Short {
     pub flags: Brief,
 }
 
+// CF, AF and OF.
+pub fn carry(f: Brief) -> bool
+    ensures { λ r. ⌜ r ≡ statusIn f .cf ⌝ }
+{
+    f.out % 2 == 1
+}
+
+pub fn adjust(f: Brief) -> bool
+    ensures { λ r. ⌜ r ≡ statusIn f .af ⌝ }
+{
+    f.into / 16 % 2 == 1
+}
+
+pub fn overflow(f: Brief) -> bool
+    ensures { λ r. ⌜ r ≡ statusIn f .of ⌝ }
+{
+    (0x8000_0000 <= f.into) != (f.out % 2 == 1)
+}
+
 // All six flags.
 pub fn status_in(f: Brief) -> Status
     ensures { λ r. ⌜ r ≡ statusIn f ⌝ }
 {
     Status {
-        cf: f.cf,
+        cf: carry(f),
         pf: crate::even(f.seen),
-        af: f.af,
+        af: adjust(f),
         zf: f.seen == 0,
         sf: 0x8000_0000 <= f.seen,
-        of: f.of,
+        of: overflow(f),
     }
 }
 
@@ -52,7 +71,7 @@ pub fn is_tellable(s: Status) -> bool
 }
 
 fn shown(s: Status) -> u32
-    ensures { λ r. ⌜ (tellable s ≡ true → statusIn (record { cf = s .cf; af = s .af; of = s .of; seen = r }) ≡ s) ⌝ }
+    ensures { λ r. ⌜ (tellable s ≡ true → seeing (s .cf) (s .af) (s .of) r ≡ s) ⌝ }
 {
     if s.zf {
         return 0;
@@ -63,26 +82,38 @@ fn shown(s: Status) -> u32
     if s.pf { 3 } else { 1 }
 }
 
+// Flags that are given, beside those that a dword shows.
+pub fn beside(cf: bool, af: bool, of: bool, seen: u32) -> Brief
+    ensures { λ r. ⌜ statusIn r ≡ seeing cf af of seen ⌝ }
+{
+    Brief {
+        out: crate::one(cf),
+        into: 16 * crate::one(af) + 0x8000_0000 * crate::one(of != cf),
+        seen,
+    }
+}
+
 pub fn brief_of(s: Status) -> Brief
     ensures { λ r. ⌜ (tellable s ≡ true → statusIn r ≡ s) ⌝ }
 {
-    Brief {
-        cf: s.cf,
-        af: s.af,
-        of: s.of,
-        seen: shown(s),
-    }
+    beside(s.cf, s.af, s.of, shown(s))
 }
 
 // What an operation takes over from the flags before it, where it sets ZF, SF and PF anew.
 pub fn kept(s: Status) -> Brief
-    ensures { λ r. ⌜ (r .cf ≡ s .cf) × ((r .af ≡ s .af) × (r .of ≡ s .of)) ⌝ }
+    ensures { λ r. ⌜ (statusIn r .cf ≡ s .cf) × ((statusIn r .af ≡ s .af) × (statusIn r .of ≡ s .of)) ⌝ }
+{
+    beside(s.cf, s.af, s.of, 0)
+}
+
+// The same with CF and OF both as c.
+pub fn with_both(f: Brief, c: bool) -> Brief
+    ensures { λ r. ⌜ statusIn r ≡ seeing c (statusIn f .af) c (f .seen) ⌝ }
 {
     Brief {
-        cf: s.cf,
-        af: s.af,
-        of: s.of,
-        seen: 0,
+        out: crate::one(c),
+        into: f.into % 0x8000_0000,
+        seen: f.seen,
     }
 }
 
@@ -92,11 +123,9 @@ pub fn add32(a: u32, b: u32, c: bool) -> Short
     let k = crate::one(c);
     let t = a as u64 + b as u64 + k as u64;
     let r = (t % 0x1_0000_0000) as u32;
-    let n = 0x8000_0000 <= a;
     let flags = Brief {
-        cf: 0x1_0000_0000 <= t,
-        af: 16 <= a % 16 + b % 16 + k,
-        of: (n == (0x8000_0000 <= b)) & (n != (0x8000_0000 <= r)),
+        out: (t / 0x1_0000_0000) as u32,
+        into: a ^ b ^ r,
         seen: r,
     };
     Short { value: r, flags }
@@ -108,11 +137,9 @@ pub fn sub32(a: u32, b: u32, c: bool) -> Short
     let k = crate::one(c);
     let s = b as u64 + k as u64;
     let r = ((0x1_0000_0000 + a as u64 - s) % 0x1_0000_0000) as u32;
-    let n = 0x8000_0000 <= a;
     let flags = Brief {
-        cf: (a as u64) < s,
-        af: a % 16 < b % 16 + k,
-        of: (n != (0x8000_0000 <= b)) & (n != (0x8000_0000 <= r)),
+        out: crate::one((a as u64) < s),
+        into: a ^ b ^ r,
         seen: r,
     };
     Short { value: r, flags }
@@ -122,12 +149,18 @@ pub fn logic32(r: u32, f: Brief) -> Short
     ensures { λ x. ⌜ outIn x ≡ logic 32 (statusIn f) r ⌝ }
 {
     let flags = Brief {
-        cf: false,
-        af: f.af,
-        of: false,
+        out: 0,
+        into: f.into % 0x8000_0000,
         seen: r,
     };
     Short { value: r, flags }
+}
+
+// The carries into a byte's places, with the one into its top place where a dword has it.
+fn byte_places(m: u32) -> u32
+    ensures { λ r. ⌜ r ≡ m % 256 * 16777217 ⌝ }
+{
+    m % 256 + m % 256 * 16777216
 }
 
 pub fn add8(a: u8, b: u8, c: bool) -> Short
@@ -136,11 +169,9 @@ pub fn add8(a: u8, b: u8, c: bool) -> Short
     let k = crate::one(c);
     let t = a as u32 + b as u32 + k;
     let r = t % 256;
-    let n = 128 <= a;
     let flags = Brief {
-        cf: 256 <= t,
-        af: 16 <= a as u32 % 16 + b as u32 % 16 + k,
-        of: (n == (128 <= b)) & (n != (128 <= r)),
+        out: t / 256,
+        into: byte_places(a as u32 ^ b as u32 ^ r),
         seen: crate::signed_byte(r),
     };
     Short { value: r, flags }
@@ -152,11 +183,9 @@ pub fn sub8(a: u8, b: u8, c: bool) -> Short
     let k = crate::one(c);
     let s = b as u32 + k;
     let r = (256 + a as u32 - s) % 256;
-    let n = 128 <= a;
     let flags = Brief {
-        cf: (a as u32) < s,
-        af: a as u32 % 16 < b as u32 % 16 + k,
-        of: (n != (128 <= b)) & (n != (128 <= r)),
+        out: crate::one((a as u32) < s),
+        into: byte_places(a as u32 ^ b as u32 ^ r),
         seen: crate::signed_byte(r),
     };
     Short { value: r, flags }
@@ -166,9 +195,8 @@ pub fn logic8(r: u8, f: Brief) -> Short
     ensures { λ x. ⌜ outIn x ≡ logic 8 (statusIn f) r ⌝ }
 {
     let flags = Brief {
-        cf: false,
-        af: f.af,
-        of: false,
+        out: 0,
+        into: f.into % 0x8000_0000,
         seen: crate::signed_byte(r as u32),
     };
     Short {
@@ -183,9 +211,8 @@ pub fn keep_carry(f: Brief, r: Short) -> Short
 {
     let g = r.flags;
     let flags = Brief {
-        cf: f.cf,
-        af: g.af,
-        of: g.of,
+        out: f.out,
+        into: g.into ^ ((f.out ^ g.out) % 2 * 0x8000_0000),
         seen: g.seen,
     };
     Short {

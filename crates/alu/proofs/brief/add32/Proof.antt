@@ -1,9 +1,27 @@
-use Rattle.alu.proofs.Laws.{add-of, bit-le}
-use Rattle.alu.specs.Arithmetic.{bit, sumStatus}
-use mathlib.Core.Path.{refl}
+use Prim.Native.Nat.{ℕ, _+_, _*_, _/_, _%_, _<_, _≤_}
+use native.Mathlib.Omega.{arith}
+use mathlib.Core.Path.{_≡_, ap, _∙_}
+use lib.Bits.{bitXor}
+use Rattle.alu.proofs.Laws.{add-of}
+use Rattle.alu.proofs.Carries.{read-out, add-af, top-of-three}
+use Rattle.alu.specs.declared.brief.Short.{Short}
+use Rattle.alu.specs.Arithmetic.{sum, sumStatus}
+use Rattle.alu.specs.Brief.{outIn}
 use borrow.Author.Needs.{needs}
 use Rattle.alu.proofs.brief.add32.Statement.{statement}
 use Rattle.alu.proofs.brief.add32.Tie as tie
+
+abbrev brief : ℕ → ℕ → Short
+brief x t = record { value = t % 4294967296; flags = record { out = t / 4294967296; into = bitXor x (t % 4294967296); seen = t % 4294967296 } }
+
+added : (a b k : ℕ) → a < 4294967296 → b < 4294967296 → k ≤ 1 → outIn (brief (bitXor a b) (a + b + k)) ≡ sum 32 a b k
+unfolding sumStatus
+added a b k ha hb hk =
+    let t = a + b + k in
+    let cf = read-out 4294967296 t (omega arith) in
+    let af = add-af a b k (t % 4294967296) (t / 4294967296 * 134217728) hk (omega arith) in
+    let top = top-of-three 31 a b (t % 4294967296) ha hb (omega arith) in
+    rw (cf, af, top, add-of 2147483648 a b k ha hb hk)
 
 one-requires : tie.Need-one-requires
 one-requires c κs = search needs
@@ -20,17 +38,13 @@ add-t-2 c = search needs
 cast-r : tie.Need-cast-r
 cast-r c = search needs
 
-add-t16 : tie.Need-add-t16
-add-t16 c = search needs
-
-add-t17 : tie.Need-add-t17
-add-t17 c = search needs
+cast-t12 : tie.Need-cast-t12
+cast-t12 c = search needs
 
 returns : tie.Need-returns
-unfolding sumStatus
-returns c = let x = c .before .args in
-    let o = add-of 2147483648 (x .a) (x .b) (bit (x .c)) (search needs) (search needs) (bit-le (x .c)) in
-    simp (c .one .ensures .0, o) refl
+returns c =
+    let x = c .before .args in
+    added (x .a) (x .b) _ (search needs) (search needs) (c .one .ensures .1) ∙ ap (sum 32 (x .a) (x .b)) (c .one .ensures .0)
 
 pub add32-spec : {M : Type 1} → statement M
-add32-spec = tie.close (tie.spec one-requires add-t cast-t add-t-2 cast-r add-t16 add-t17 returns)
+add32-spec = tie.close (tie.spec one-requires add-t cast-t add-t-2 cast-r cast-t12 returns)

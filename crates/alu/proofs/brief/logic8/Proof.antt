@@ -1,5 +1,7 @@
-use Rattle.alu.proofs.Showing.{byte-out}
+use Rattle.alu.proofs.Carries.{low-place, low-top}
+use Rattle.alu.proofs.Showing.{byte-status}
 use Rattle.alu.specs.Arithmetic.{logicStatus}
+use mathlib.Core.Bool.{false}
 use borrow.Author.Needs.{needs}
 use Rattle.alu.proofs.brief.logic8.Statement.{statement}
 use Rattle.alu.proofs.brief.logic8.Tie as tie
@@ -9,7 +11,10 @@ signed-byte-requires c κs = search needs
 
 returns : tie.Need-returns
 unfolding logicStatus
-returns c = byte-out _ _ _ _ _ (search needs) (c .signed-byte .ensures)
+returns c =
+    let x = c .before .before .args in
+    let n = x .f .into in
+    rw (low-place n, low-top n, c .signed-byte .ensures, byte-status false _ false (x .r) (search needs))
 
 pub logic8-spec : {M : Type 1} → statement M
 logic8-spec = tie.close (tie.spec signed-byte-requires returns)
