@@ -11,11 +11,9 @@ use lib.Bits.{bitAnd, bitXor, and-mask, xor-add-and, xor-zero-r, xor-lt}
 use borrow.Author.Tests.{le-leb, lt-leb, leb-true, leb-false, ne-eqb}
 use Rattle.alu.specs.declared.Status.{Status}
 use Rattle.alu.specs.declared.Out.{Out}
-use Rattle.alu.specs.declared.brief.Brief.{Brief}
-use Rattle.alu.specs.declared.brief.Short.{Short}
 use Rattle.alu.specs.Arithmetic.{signedByte}
-use Rattle.alu.specs.Brief.{statusIn, outIn}
-use Rattle.alu.proofs.Showing.{byte-out}
+use Rattle.alu.specs.Brief.{seeing}
+use Rattle.alu.proofs.Showing.{byte-status}
 use Rattle.shifts.specs.Shifts.{times, left, right, shiftStatus, shifted}
 
 pow-suc : (v m : ℕ) → v * 2 ^ suc m ≡ v * 2 ^ m + v * 2 ^ m
@@ -80,18 +78,18 @@ sar-lt k m a t h g = xor-lt k (bitXor a t / 2 ^ m) t (omega (arith, shr-le (bitX
 some-place : (n : ℕ) → 0 < n → eqb n 0 ≡ false
 some-place n h = ne-eqb n 0 (λ e. omega arith)
 
--- the answer r of some places, in brief
-module _ (n : ℕ) (f : Brief) (r : ℕ) (last one : Bool) (h : 0 < n) where
-  abbrev short : ℕ → Short
-  short seen = record { value = r; flags = record { cf = last; af = f .af; of = cond (eqb n 1) one (f .of); seen = seen } }
+-- the answer r of some places, by the dword that shows it
+module _ (n : ℕ) (s : Status) (r : ℕ) (last one : Bool) (h : 0 < n) where
+  abbrev shown : ℕ → Out
+  shown seen = record { value = r; status = seeing last (s .af) (cond (eqb n 1) one (s .of)) seen }
 
-  pub dword-after : outIn (short r) ≡ record { value = r; status = shiftStatus 32 n (statusIn f) r last one }
+  pub dword-after : {o : Out} → o ≡ shown r → o ≡ record { value = r; status = shiftStatus 32 n s r last one }
   unfolding shiftStatus
-  dword-after = simp (some-place n h)
+  dword-after e = e ∙ simp (some-place n h)
 
-  pub byte-after : (x : ℕ) → r < 256 → x ≡ signedByte r → outIn (short x) ≡ record { value = r; status = shiftStatus 8 n (statusIn f) r last one }
+  pub byte-after : {o : Out} (x : ℕ) → r < 256 → x ≡ signedByte r → o ≡ shown x → o ≡ record { value = r; status = shiftStatus 8 n s r last one }
   unfolding shiftStatus
-  byte-after x k e = byte-out _ _ _ r x k e ∙ simp (some-place n h)
+  byte-after x k z e = e ∙ rw (z, byte-status last (s .af) (cond (eqb n 1) one (s .of)) r k, some-place n h)
 
 -- some places ask only for AF and OF of the status before
 pub depends : (op w n v : ℕ) (s t : Status) → 0 < n → s .af ≡ t .af → s .of ≡ t .of → shifted op w n v s ≡ shifted op w n v t

@@ -3,7 +3,7 @@ ghost use mathlib.Core.Path.{_≡_};
 ghost use mathlib.Core.Bool.{cond};
 ghost use Prim.Native.Nat.{_+_, _-_, _*_, _/_, _%_, _^_, _<_, _≤_};
 ghost use lib.Dec.{eqb};
-ghost use Rattle.alu.specs.Brief.{statusIn, outIn};
+ghost use Rattle.alu.specs.Brief.{statusIn, outIn, seeing};
 ghost use Rattle.shifts.specs.Shifts.{shiftLeft, shiftRight, shiftRightSigned, shifted, shift};
 use alu::Out;
 use alu::Status;
@@ -21,15 +21,10 @@ fn either(c: bool, a: bool, b: bool) -> bool
 
 // The answer r of n places, by the dword that shows it, the last bit that left, and OF after one place.
 fn after(n: u32, f: Brief, r: u32, seen: u32, last: bool, one: bool) -> Short
-    ensures { λ x. ⌜ x ≡ record { value = r; flags = record { cf = last; af = f .af; of = cond (eqb n 1) one (f .of); seen = seen } } ⌝ }
+    ensures { λ x. ⌜ outIn x ≡ record { value = r; status = seeing last (statusIn f .af) (cond (eqb n 1) one (statusIn f .of)) seen } ⌝ }
 {
-    let of = either(n == 1, one, f.of);
-    let flags = Brief {
-        cf: last,
-        af: f.af,
-        of,
-        seen,
-    };
+    let of = either(n == 1, one, alu::brief::overflow(f));
+    let flags = alu::brief::beside(last, alu::brief::adjust(f), of, seen);
     Short { value: r, flags }
 }
 

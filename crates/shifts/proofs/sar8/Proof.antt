@@ -16,11 +16,10 @@ returns c =
     let e = c .before .before .flip .ensures .0 in
     let l = sar-lt 8 (x .n) (x .v) t (search needs) (omega arith) in
     rw (
-      c .after .ensures,
       ← sar-times 8 128 (x .n) (x .v) t refl (search needs) e,
       ← sar-times 8 128 (x .n - 1) (x .v) t refl (search needs) e,
     )
-    (byte-after (x .n) (x .f) _ _ _ (search needs) _ l (c .before .signed-byte .ensures))
+    (byte-after (x .n) _ _ _ _ (search needs) _ l (c .before .signed-byte .ensures) (c .after .ensures))
 
 pub sar8-spec : {M : Type 1} → statement M
 sar8-spec = tie.close (tie.spec (λ c κs. search needs) (λ c. search needs) (λ c. search needs) (λ c. search needs) signed-byte-requires (λ c κs. search needs) returns)

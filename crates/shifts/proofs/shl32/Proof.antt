@@ -7,8 +7,8 @@ use Rattle.shifts.proofs.shl32.Tie as tie
 returns : tie.Need-returns
 returns c =
     let x = c .before .args in
-    rw (c .after .ensures, ← shl-times 32 (x .n) (x .v) (search needs), ← shl-times 32 (x .n - 1) (x .v) (search needs))
-    (dword-after (x .n) (x .f) _ _ _ (search needs))
+    rw (← shl-times 32 (x .n) (x .v) (search needs), ← shl-times 32 (x .n - 1) (x .v) (search needs))
+    (dword-after (x .n) _ _ _ _ (search needs) (c .after .ensures))
 
 pub shl32-spec : {M : Type 1} → statement M
 shl32-spec = tie.close (tie.spec (λ c. search needs) (λ c. search needs) (λ c. search needs) (λ c κs. search needs) returns)

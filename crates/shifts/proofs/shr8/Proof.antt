@@ -12,8 +12,8 @@ signed-byte-requires c κs = let x = c .args in omega (arith, shr-le (x .v) (x .
 returns : tie.Need-returns
 returns c =
     let x = c .before .before .args in
-    rw (c .after .ensures, ← shr-times (x .n) (x .v), ← shr-times (x .n - 1) (x .v))
-    (byte-after (x .n) (x .f) _ _ _ (search needs) _ (omega (arith, shr-le (x .v) (x .n))) (c .before .signed-byte .ensures))
+    rw (← shr-times (x .n) (x .v), ← shr-times (x .n - 1) (x .v))
+    (byte-after (x .n) _ _ _ _ (search needs) _ (omega (arith, shr-le (x .v) (x .n))) (c .before .signed-byte .ensures) (c .after .ensures))
 
 pub shr8-spec : {M : Type 1} → statement M
 shr8-spec = tie.close (tie.spec (λ c. search needs) (λ c. search needs) (λ c. search needs) signed-byte-requires (λ c κs. search needs) returns)
