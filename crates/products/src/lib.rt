@@ -160,12 +160,7 @@ pub fn multiply32(signed: bool, a: u32, b: u32, f: Brief) -> Halves
     ensures { λ r. ⌜ record { low = r .low; high = r .high; status = statusIn (r .flags) } ≡ product signed true a b (statusIn f) ⌝ }
 {
     let w = product32(signed, a, b);
-    let flags = Brief {
-        cf: w.carry,
-        af: f.af,
-        of: w.carry,
-        seen: f.seen,
-    };
+    let flags = alu::brief::with_both(f, w.carry);
     Halves {
         low: (w.all % 0x1_0000_0000) as u32,
         high: (w.all / 0x1_0000_0000) as u32,
