@@ -83,8 +83,8 @@ pub fn dwords(op: u32, x: u32, y: u32, f: Brief) -> Short
     match op {
         0 => alu::brief::add32(x, y, false),
         1 => alu::brief::logic32(x | y, f),
-        2 => alu::brief::add32(x, y, f.cf),
-        3 => alu::brief::sub32(x, y, f.cf),
+        2 => alu::brief::add32(x, y, alu::brief::carry(f)),
+        3 => alu::brief::sub32(x, y, alu::brief::carry(f)),
         4 => alu::brief::logic32(x & y, f),
         5 => alu::brief::sub32(x, y, false),
         6 => alu::brief::logic32(x ^ y, f),
@@ -104,8 +104,8 @@ fn on_bytes(op: u32, x: u8, y: u8, f: Brief) -> Short
     match op {
         0 => alu::brief::add8(x, y, false),
         1 => alu::brief::logic8(x | y, f),
-        2 => alu::brief::add8(x, y, f.cf),
-        3 => alu::brief::sub8(x, y, f.cf),
+        2 => alu::brief::add8(x, y, alu::brief::carry(f)),
+        3 => alu::brief::sub8(x, y, alu::brief::carry(f)),
         4 => alu::brief::logic8(x & y, f),
         5 => alu::brief::sub8(x, y, false),
         6 => alu::brief::logic8(x ^ y, f),

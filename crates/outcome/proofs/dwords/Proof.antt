@@ -14,8 +14,14 @@ add32-requires c κs = search needs
 logic32-requires : tie.Need-logic32-requires
 logic32-requires c κs = search needs
 
+carry-requires : tie.Need-carry-requires
+carry-requires c κs = search needs
+
 add32-requires-2 : tie.Need-add32-requires-2
 add32-requires-2 c κs = search needs
+
+carry-requires-2 : tie.Need-carry-requires-2
+carry-requires-2 c κs = search needs
 
 sub32-requires : tie.Need-sub32-requires
 sub32-requires c κs = search needs
@@ -63,11 +69,11 @@ returns-2 c = numbered _ _ _ ((c .before .before .fits .x)) ((c .before .before 
 
 returns-3 : tie.Need-returns-3
 unfolding operation
-returns-3 c = numbered _ _ _ ((c .before .before .fits .x)) ((c .before .before .fits .y)) ((c .before .match .keys3)) refl ((c .add322 .ensures))
+returns-3 c = numbered _ _ _ ((c .before .before .before .fits .x)) ((c .before .before .before .fits .y)) ((c .before .before .match .keys3)) refl (rw (c .before .carry .ensures) at (c .add322 .ensures))
 
 returns-4 : tie.Need-returns-4
 unfolding operation
-returns-4 c = numbered _ _ _ ((c .before .before .fits .x)) ((c .before .before .fits .y)) ((c .before .match .keys4)) refl ((c .sub32 .ensures))
+returns-4 c = numbered _ _ _ ((c .before .before .before .fits .x)) ((c .before .before .before .fits .y)) ((c .before .before .match .keys4)) refl (rw (c .before .carry2 .ensures) at (c .sub32 .ensures))
 
 returns-5 : tie.Need-returns-5
 unfolding operation
@@ -111,7 +117,9 @@ dwords-spec =
     (tie.spec
     add32-requires
     logic32-requires
+    carry-requires
     add32-requires-2
+    carry-requires-2
     sub32-requires
     logic32-requires-2
     sub32-requires-2

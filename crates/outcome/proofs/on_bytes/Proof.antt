@@ -14,8 +14,14 @@ add8-requires c κs = search needs
 logic8-requires : tie.Need-logic8-requires
 logic8-requires c κs = search needs
 
+carry-requires : tie.Need-carry-requires
+carry-requires c κs = search needs
+
 add8-requires-2 : tie.Need-add8-requires-2
 add8-requires-2 c κs = search needs
+
+carry-requires-2 : tie.Need-carry-requires-2
+carry-requires-2 c κs = search needs
 
 sub8-requires : tie.Need-sub8-requires
 sub8-requires c κs = search needs
@@ -57,11 +63,11 @@ returns-2 c = byte-numbered _ _ _ (search needs) (search needs) ((c .before .mat
 
 returns-3 : tie.Need-returns-3
 unfolding operation
-returns-3 c = byte-numbered _ _ _ (search needs) (search needs) ((c .before .match .keys3)) refl ((c .add82 .ensures))
+returns-3 c = byte-numbered _ _ _ (search needs) (search needs) ((c .before .before .match .keys3)) refl (rw (c .before .carry .ensures) at (c .add82 .ensures))
 
 returns-4 : tie.Need-returns-4
 unfolding operation
-returns-4 c = byte-numbered _ _ _ (search needs) (search needs) ((c .before .match .keys4)) refl ((c .sub8 .ensures))
+returns-4 c = byte-numbered _ _ _ (search needs) (search needs) ((c .before .before .match .keys4)) refl (rw (c .before .carry2 .ensures) at (c .sub8 .ensures))
 
 returns-5 : tie.Need-returns-5
 unfolding operation
@@ -99,7 +105,9 @@ on-bytes-spec =
     (tie.spec
     add8-requires
     logic8-requires
+    carry-requires
     add8-requires-2
+    carry-requires-2
     sub8-requires
     logic8-requires-2
     sub8-requires-2
