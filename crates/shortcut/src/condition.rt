@@ -8,22 +8,22 @@ pub fn holds(n: u32, f: Brief) -> bool
     ensures { λ r. ⌜ r ≡ holds n (statusIn f) ⌝ }
 {
     match n {
-        0 => f.of,
-        1 => !f.of,
-        2 => f.cf,
-        3 => !f.cf,
+        0 => alu::brief::overflow(f),
+        1 => !alu::brief::overflow(f),
+        2 => alu::brief::carry(f),
+        3 => !alu::brief::carry(f),
         4 => f.seen == 0,
         5 => !(f.seen == 0),
-        6 => f.cf | (f.seen == 0),
-        7 => !(f.cf | (f.seen == 0)),
+        6 => alu::brief::carry(f) | (f.seen == 0),
+        7 => !(alu::brief::carry(f) | (f.seen == 0)),
         8 => 0x8000_0000 <= f.seen,
         9 => !(0x8000_0000 <= f.seen),
         10 => alu::even(f.seen),
         11 => !alu::even(f.seen),
-        12 => (0x8000_0000 <= f.seen) != f.of,
-        13 => !((0x8000_0000 <= f.seen) != f.of),
-        14 => (f.seen == 0) | ((0x8000_0000 <= f.seen) != f.of),
-        15 => !((f.seen == 0) | ((0x8000_0000 <= f.seen) != f.of)),
+        12 => (0x8000_0000 <= f.seen) != alu::brief::overflow(f),
+        13 => !((0x8000_0000 <= f.seen) != alu::brief::overflow(f)),
+        14 => (f.seen == 0) | ((0x8000_0000 <= f.seen) != alu::brief::overflow(f)),
+        15 => !((f.seen == 0) | ((0x8000_0000 <= f.seen) != alu::brief::overflow(f))),
         _ => false,
     }
 }
