@@ -2,7 +2,7 @@
 use Prim.Native.Nat.{ℕ, suc, _+_, _-_, _*_, _/_, _%_, _^_, _≤_, _<_}
 use native.Mathlib.Omega.{arith}
 use native.Mathlib.Nat.{div-eq-of-lt, div-eq-of-lt-le, pow-suc}
-use mathlib.Core.Path.{_≡_, refl, sym, ap, _∙_}
+use mathlib.Core.Path.{_≡_, refl, sym, _∙_}
 use mathlib.Core.Bool.{Bool, true, false, not, Bool·beq}
 use lib.Dec.{ltb, leb, eqb}
 use lib.Bits.{bitXor, bitAnd, xor-shr, xor-add-and, xor-lt, xor-mod}
@@ -12,13 +12,13 @@ use Rattle.alu.proofs.Laws.{intoTop, leb-same, bit-le}
 
 -- ---- one place
 
-pub xor-place : (k a b : ℕ) → bitXor a b / 2 ^ k % 2 ≡ (a / 2 ^ k + b / 2 ^ k) % 2
+xor-place : (k a b : ℕ) → bitXor a b / 2 ^ k % 2 ≡ (a / 2 ^ k + b / 2 ^ k) % 2
 xor-place k a b = rw (xor-shr a b k) (odd (bitXor (a / 2 ^ k) (b / 2 ^ k)) _ _ (bitAnd (a / 2 ^ k) (b / 2 ^ k)) (xor-add-and (a / 2 ^ k) (b / 2 ^ k)))
   where
     odd : (x m n y : ℕ) → x + y * 2 ≡ m + n → x % 2 ≡ (m + n) % 2
     odd x m n y h = omega arith
 
-pub place-of-three : (k a b r : ℕ) → bitXor (bitXor a b) r / 2 ^ k % 2 ≡ (a / 2 ^ k + b / 2 ^ k + r / 2 ^ k) % 2
+place-of-three : (k a b r : ℕ) → bitXor (bitXor a b) r / 2 ^ k % 2 ≡ (a / 2 ^ k + b / 2 ^ k + r / 2 ^ k) % 2
 place-of-three k a b r = xor-place k (bitXor a b) r ∙ odd _ _ _ _ (xor-place k a b)
   where
     odd : (x m n y : ℕ) → x % 2 ≡ (m + n) % 2 → (x + y) % 2 ≡ (m + n + y) % 2
@@ -35,10 +35,7 @@ as-bit n = by (eqb (n % 2) 1) refl
   where
     by : (v : Bool) → eqb (n % 2) 1 ≡ v → n % 2 ≡ bit (eqb (n % 2) 1)
     by true e = rw e (eqb-true (n % 2) 1 e)
-    by false e = rw e (other (eqb-false (n % 2) 1 e))
-      where
-        other : (n % 2 ≡ 1 → ⊥) → n % 2 ≡ 0
-        other h = omega arith
+    by false e = rw e (omega (arith, eqb-false (n % 2) 1 e))
 
 xor-bit : (p q : Bool) → bitXor (bit p) (bit q) ≡ bit (not (Bool·beq p q))
 xor-bit true true = refl
@@ -46,8 +43,8 @@ xor-bit true false = refl
 xor-bit false true = refl
 xor-bit false false = refl
 
--- what a number below 2 m carries out of its place below m
-pub out-of : (m t : ℕ) → t < m + m → t / m ≡ bit (leb m t)
+-- what a number below 2 m carries beyond m
+out-of : (m t : ℕ) → t < m + m → t / m ≡ bit (leb m t)
 out-of m t h = by (leb m t) refl
   where
     by : (v : Bool) → leb m t ≡ v → t / m ≡ bit (leb m t)
@@ -66,7 +63,7 @@ Fits k a = a < 2 ^ k + 2 ^ k
 xor-fits : (k a b : ℕ) → Fits k a → Fits k b → Fits k (bitXor a b)
 xor-fits k a b ha hb = omega (arith, xor-lt (suc k) a b (omega (arith, pow-suc 2 k)) (omega (arith, pow-suc 2 k)), pow-suc 2 k)
 
-pub top-xor : (k a b : ℕ) → Fits k a → Fits k b → leb (2 ^ k) (bitXor a b) ≡ not (Bool·beq (leb (2 ^ k) a) (leb (2 ^ k) b))
+top-xor : (k a b : ℕ) → Fits k a → Fits k b → leb (2 ^ k) (bitXor a b) ≡ not (Bool·beq (leb (2 ^ k) a) (leb (2 ^ k) b))
 top-xor k a b ha hb =
     sym (read-out (2 ^ k) (bitXor a b) (xor-fits k a b ha hb))
     ∙ rw (xor-shr a b k, out-of (2 ^ k) a ha, out-of (2 ^ k) b hb, xor-bit (leb (2 ^ k) a) (leb (2 ^ k) b)) (read-bit (not (Bool·beq (leb (2 ^ k) a) (leb (2 ^ k) b))))

@@ -13,14 +13,14 @@ bit-le true = omega arith
 bit-le false = omega arith
 
 -- t modulo m, where t is below 2 m
-pub mod-once : (m t : ℕ) → m ≤ t → t < m + m → t % m ≡ t - m
+mod-once : (m t : ℕ) → m ≤ t → t < m + m → t % m ≡ t - m
 mod-once m t h k = mod-eq-sub-mod h ∙ mod-eq-of-lt (omega arith)
 
 -- a signed number lifted by H, as the top bit says
-pub lift-low : (H a : ℕ) → a < H → (a + H) % (H + H) ≡ a + H
+lift-low : (H a : ℕ) → a < H → (a + H) % (H + H) ≡ a + H
 lift-low H a h = mod-eq-of-lt (omega arith)
 
-pub lift-high : (H a : ℕ) → H ≤ a → a < H + H → (a + H) % (H + H) ≡ a - H
+lift-high : (H a : ℕ) → H ≤ a → a < H + H → (a + H) % (H + H) ≡ a - H
 lift-high H a h k = mod-once (H + H) (a + H) (omega arith) (omega arith) ∙ omega arith
 
 ruleset tests = (arith, ltb-true, ltb-false, leb-true, leb-false)
@@ -29,13 +29,13 @@ ruleset tests = (arith, ltb-true, ltb-false, leb-true, leb-false)
 abbrev outside : (H x : ℕ) → Bool
 outside H x = not (leb H x && ltb x (3 * H))
 
-pub within : (H x : ℕ) → H ≤ x → x < 3 * H → outside H x ≡ false
+within : (H x : ℕ) → H ≤ x → x < 3 * H → outside H x ≡ false
 within H x h k = simp (le-leb H x h, lt-ltb x (3 * H) k)
 
-pub under : (H x : ℕ) → x < H → outside H x ≡ true
+under : (H x : ℕ) → x < H → outside H x ≡ true
 under H x h = simp (lt-leb H x h)
 
-pub over : (H x : ℕ) → 3 * H ≤ x → outside H x ≡ true
+over : (H x : ℕ) → 3 * H ≤ x → outside H x ≡ true
 over H x h = simp (le-leb H x (omega arith), le-ltb x (3 * H) h)
 
 -- two tests of the same distance, and of opposite ones
@@ -46,7 +46,7 @@ leb-same a b c d h = by (leb c d) refl
     by true e = rw e (le-leb a b (omega tests))
     by false e = rw e (lt-leb a b (omega tests))
 
-pub leb-not : (a b c d : ℕ) → suc (b + d) ≡ a + c → leb a b ≡ not (leb c d)
+leb-not : (a b c d : ℕ) → suc (b + d) ≡ a + c → leb a b ≡ not (leb c d)
 leb-not a b c d h = by (leb c d) refl
   where
     by : (v : Bool) → leb c d ≡ v → leb a b ≡ not (leb c d)
@@ -70,7 +70,7 @@ abbrev pub intoTop : Bool → Bool → Bool → Bool
 intoTop p q u = not (Bool·beq (not (Bool·beq p q)) u)
 
 -- OF: the carry into the top place is not the one out of it
-abbrev pub overflows : Bool → Bool → Bool → Bool → Bool
+abbrev overflows : Bool → Bool → Bool → Bool → Bool
 overflows p q u v = not (Bool·beq (intoTop p q u) v)
 
 -- OF of a sum

@@ -23,28 +23,10 @@ added a b k ha hb hk =
     let top = top-of-three 31 a b (t % 4294967296) ha hb (omega arith) in
     rw (cf, af, top, add-of 2147483648 a b k ha hb hk)
 
-one-requires : tie.Need-one-requires
-one-requires c κs = search needs
-
-add-t : tie.Need-add-t
-add-t c = search needs
-
-cast-t : tie.Need-cast-t
-cast-t c = search needs
-
-add-t-2 : tie.Need-add-t-2
-add-t-2 c = search needs
-
-cast-r : tie.Need-cast-r
-cast-r c = search needs
-
-cast-t12 : tie.Need-cast-t12
-cast-t12 c = search needs
-
 returns : tie.Need-returns
 returns c =
     let x = c .before .args in
     added (x .a) (x .b) _ (search needs) (search needs) (c .one .ensures .1) ∙ ap (sum 32 (x .a) (x .b)) (c .one .ensures .0)
 
 pub add32-spec : {M : Type 1} → statement M
-add32-spec = tie.close (tie.spec one-requires add-t cast-t add-t-2 cast-r cast-t12 returns)
+add32-spec = tie.close (tie.spec (λ c κs. search needs) (λ c. search needs) (λ c. search needs) (λ c. search needs) (λ c. search needs) (λ c. search needs) returns)

@@ -24,21 +24,6 @@ added a b k x y ha hb hk ex ey =
     let top = top-of-three 7 a b r ha hb hr in
     rw (byte-brief (record { out = t / 256; into = x; seen = y }) _ m r (xor-lt 8 (bitXor a b) r (xor-lt 8 a b ha hb) hr) hr cf ex ey, af, top, add-of 128 a b k ha hb hk)
 
-one-requires : tie.Need-one-requires
-one-requires c κs = search needs
-
-add-t : tie.Need-add-t
-add-t c = search needs
-
-add-t-2 : tie.Need-add-t-2
-add-t-2 c = search needs
-
-byte-places-requires : tie.Need-byte-places-requires
-byte-places-requires c κs = search needs
-
-signed-byte-requires : tie.Need-signed-byte-requires
-signed-byte-requires c κs = search needs
-
 returns : tie.Need-returns
 returns c =
     let x = c .before .before .before .args in
@@ -46,6 +31,4 @@ returns c =
     ∙ ap (sum 8 (x .a) (x .b)) (c .before .before .one .ensures .0)
 
 pub add8-spec : {M : Type 1} → statement M
-add8-spec =
-    tie.close
-    (tie.spec one-requires add-t add-t-2 byte-places-requires signed-byte-requires returns)
+add8-spec = tie.close (tie.spec (λ c κs. search needs) (λ c. search needs) (λ c. search needs) (λ c κs. search needs) (λ c κs. search needs) returns)

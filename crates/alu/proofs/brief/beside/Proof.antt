@@ -17,29 +17,10 @@ given false true false seen = refl
 given false false true seen = refl
 given false false false seen = refl
 
-one-requires : tie.Need-one-requires
-one-requires c κs = search needs
-
-one-requires-2 : tie.Need-one-requires-2
-one-requires-2 c κs = search needs
-
-mul-t7 : tie.Need-mul-t7
-mul-t7 c = search needs
-
-one-requires-3 : tie.Need-one-requires-3
-one-requires-3 c κs = search needs
-
-mul-t10 : tie.Need-mul-t10
-mul-t10 c = search needs
-
-add-t11 : tie.Need-add-t11
-add-t11 c = search needs
-
 returns : tie.Need-returns
 returns c =
     let x = c .before .before .before .args in
     rw (c .before .before .one .ensures .0, c .before .one2 .ensures .0, c .one3 .ensures .0) (given (x .cf) (x .af) (x .of) (x .seen))
 
 pub beside-spec : {M : Type 1} → statement M
-beside-spec =
-    tie.close (tie.spec one-requires one-requires-2 mul-t7 one-requires-3 mul-t10 add-t11 returns)
+beside-spec = tie.close (tie.spec (λ c κs. search needs) (λ c κs. search needs) (λ c. search needs) (λ c κs. search needs) (λ c. search needs) (λ c. search needs) returns)

@@ -4,9 +4,6 @@ use borrow.Author.Needs.{needs}
 use Rattle.alu.proofs.brief.keep_carry.Statement.{statement}
 use Rattle.alu.proofs.brief.keep_carry.Tie as tie
 
-mul-t7 : tie.Need-mul-t7
-mul-t7 c = search needs
-
 returns : tie.Need-returns
 returns c =
     let x = c .before .before .before .before .args in
@@ -15,4 +12,4 @@ returns c =
     rw (kept-place (g .into) (bitXor f (g .out)), kept-top (g .into) f (g .out) (search needs))
 
 pub keep-carry-spec : {M : Type 1} → statement M
-keep-carry-spec = tie.close (tie.spec mul-t7 returns)
+keep-carry-spec = tie.close (tie.spec (λ c. search needs) returns)

@@ -6,9 +6,6 @@ use borrow.Author.Needs.{needs}
 use Rattle.alu.proofs.brief.logic8.Statement.{statement}
 use Rattle.alu.proofs.brief.logic8.Tie as tie
 
-signed-byte-requires : tie.Need-signed-byte-requires
-signed-byte-requires c κs = search needs
-
 returns : tie.Need-returns
 unfolding logicStatus
 returns c =
@@ -17,4 +14,4 @@ returns c =
     rw (low-place n, low-top n, c .signed-byte .ensures, byte-status false _ false (x .r) (search needs))
 
 pub logic8-spec : {M : Type 1} → statement M
-logic8-spec = tie.close (tie.spec signed-byte-requires returns)
+logic8-spec = tie.close (tie.spec (λ c κs. search needs) returns)

@@ -25,32 +25,10 @@ taken a b k o ha hb hk e =
     let top = top-of-three 31 a b (t % 4294967296) ha hb (omega arith) in
     rw (e, cf, af, top, sub-of 2147483648 a b k ha hb hk)
 
-one-requires : tie.Need-one-requires
-one-requires c κs = search needs
-
-cast-s : tie.Need-cast-s
-cast-s c = search needs
-
-add-s : tie.Need-add-s
-add-s c = search needs
-
-add-r : tie.Need-add-r
-add-r c = search needs
-
-sub-r : tie.Need-sub-r
-sub-r c = search needs
-
-cast-r : tie.Need-cast-r
-cast-r c = search needs
-
-one-requires-2 : tie.Need-one-requires-2
-one-requires-2 c κs = search needs
-
 returns : tie.Need-returns
 returns c =
     let x = c .before .before .args in
     taken (x .a) (x .b) _ _ (search needs) (search needs) (c .before .one .ensures .1) (c .one2 .ensures .0) ∙ ap (difference 32 (x .a) (x .b)) (c .before .one .ensures .0)
 
 pub sub32-spec : {M : Type 1} → statement M
-sub32-spec =
-    tie.close (tie.spec one-requires cast-s add-s add-r sub-r cast-r one-requires-2 returns)
+sub32-spec = tie.close (tie.spec (λ c κs. search needs) (λ c. search needs) (λ c. search needs) (λ c. search needs) (λ c. search needs) (λ c. search needs) (λ c κs. search needs) returns)

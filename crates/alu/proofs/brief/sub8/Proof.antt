@@ -26,27 +26,6 @@ taken a b k o x y ha hb hk eo ex ey =
     let top = top-of-three 7 a b r ha hb hr in
     rw (byte-brief (record { out = o; into = x; seen = y }) _ m r (xor-lt 8 (bitXor a b) r (xor-lt 8 a b ha hb) hr) hr cf ex ey, af, top, sub-of 128 a b k ha hb hk)
 
-one-requires : tie.Need-one-requires
-one-requires c κs = search needs
-
-add-s : tie.Need-add-s
-add-s c = search needs
-
-add-r : tie.Need-add-r
-add-r c = search needs
-
-sub-r : tie.Need-sub-r
-sub-r c = search needs
-
-one-requires-2 : tie.Need-one-requires-2
-one-requires-2 c κs = search needs
-
-byte-places-requires : tie.Need-byte-places-requires
-byte-places-requires c κs = search needs
-
-signed-byte-requires : tie.Need-signed-byte-requires
-signed-byte-requires c κs = search needs
-
 returns : tie.Need-returns
 returns c =
     let x = c .before .before .before .before .args in
@@ -54,14 +33,4 @@ returns c =
     ∙ ap (difference 8 (x .a) (x .b)) (c .before .before .before .one .ensures .0)
 
 pub sub8-spec : {M : Type 1} → statement M
-sub8-spec =
-    tie.close
-    (tie.spec
-    one-requires
-    add-s
-    add-r
-    sub-r
-    one-requires-2
-    byte-places-requires
-    signed-byte-requires
-    returns)
+sub8-spec = tie.close (tie.spec (λ c κs. search needs) (λ c. search needs) (λ c. search needs) (λ c. search needs) (λ c κs. search needs) (λ c κs. search needs) (λ c κs. search needs) returns)

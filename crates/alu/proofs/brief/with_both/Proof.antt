@@ -10,9 +10,6 @@ both : (c : Bool) → not (Bool·beq false c) ≡ c
 both true = refl
 both false = refl
 
-one-requires : tie.Need-one-requires
-one-requires c κs = search needs
-
 returns : tie.Need-returns
 returns c =
     let x = c .before .before .args in
@@ -20,4 +17,4 @@ returns c =
     rw (c .before .one .ensures .0, read-bit (x .c), low-place n, low-top n, both (x .c))
 
 pub with-both-spec : {M : Type 1} → statement M
-with-both-spec = tie.close (tie.spec one-requires returns)
+with-both-spec = tie.close (tie.spec (λ c κs. search needs) returns)
