@@ -21,19 +21,47 @@ not-at e = let z : _≡_ {A = ℕ} 0 1 = cc in omega arith
 at-is : {p q : ℕ} → At p ≡ At q → p ≡ q
 at-is e = cc
 
--- the other bytes of a page need no walk of their own
+-- ---- what the walk reaches is there, at the same place in its page
+
+exists-there : (n q p : ℕ) → exists n q ≡ At p → (q < n) × (q ≡ p)
+unfolding ask
+exists-there n q p e = by (decLt q n)
+  where
+    by : Dec (q < n) → (q < n) × (q ≡ p)
+    by (yes k) = (k, at-is (rw (lt-ltb q n k) at e))
+    by (no k) = let k′ : n ≤ q = omega arith in absurd (not-at (rw (le-ltb q n k′) at e))
+
+ask-there : (b : Bool) (r : Reply) (n q p : ℕ) → ask b r (exists n q) ≡ At p → (q < n) × (q ≡ p)
+unfolding ask
+ask-there true r n q p e = exists-there n q p e
+ask-there false r n q p e = absurd (not-at e)
+
+module _ (n : ℕ) (c : Control) (w : Bool) (l p : ℕ) where
+  reach-there : (f : Page) → reach n c w l f ≡ At p → (p < n) × (p % 4096 ≡ l % 4096)
+  unfolding reach
+  reach-there (Beyond a) e = absurd (not-at e)
+  reach-there Absent e = absurd (not-at e)
+  reach-there (Mapped us rw′ f a b) e =
+      let k = ask-there (rights c w us rw′) _ n (f * 4096 + offset l) p e in
+      (omega (arith, k .0, k .1), omega (arith, k .1))
+
+pub there : (m : Mem) (c : Control) (w : Bool) (l p : ℕ) → translate m c w l ≡ At p → (p < length m) × (p % 4096 ≡ l % 4096)
+unfolding translate
+there m c w l p e = by (paging c) refl
+  where
+    by : (g : Bool) → paging c ≡ g → (p < length m) × (p % 4096 ≡ l % 4096)
+    by true on = reach-there (length m) c w l p (pageOf m c l) (rw on at e)
+    by false on = let k = exists-there (length m) l p (rw on at e) in (omega (arith, k .0, k .1), omega (arith, k .1))
+
+-- ---- the other bytes of a page need no walk of their own
+
 module _ (n : ℕ) (size : n % 4096 ≡ 0) (c : Control) (w : Bool) (l j p : ℕ) (fits : l % 4096 + j < 4096) where
   exists-on : (q : ℕ) → q % 4096 ≡ l % 4096 → exists n q ≡ At p → exists n (q + j) ≡ At (p + j)
   unfolding ask
-  exists-on q h e = by (decLt q n)
-    where
-      by : Dec (q < n) → exists n (q + j) ≡ At (p + j)
-      by (yes k) =
-          let e′ : At q ≡ At p = rw (lt-ltb q n k) at e in
-          let s : q ≡ p = at-is e′ in
-          let k′ : q + j < n = omega arith in
-          rw (lt-ltb (q + j) n k′) (ap (λ (x : ℕ). At (x + j)) s)
-      by (no k) = let k′ : n ≤ q = omega arith in absurd (not-at (rw (le-ltb q n k′) at e))
+  exists-on q h e =
+      let k = exists-there n q p e in
+      let k′ : q + j < n = omega (arith, size, fits, h, k .0) in
+      rw (lt-ltb (q + j) n k′) (ap (λ (x : ℕ). At (x + j)) (k .1))
 
   ask-on : (b : Bool) (r r′ : Reply) (q q′ : ℕ) → q % 4096 ≡ l % 4096 → q + j ≡ q′ → ask b r (exists n q) ≡ At p → ask b r′ (exists n q′) ≡ At (p + j)
   unfolding ask

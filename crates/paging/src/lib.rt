@@ -47,6 +47,14 @@ pub fn byte_at(mem: &[u8], i: usize) -> u32
     if i < mem.len() { wide(mem[i]) } else { 0 }
 }
 
+// The byte at an index that is there.
+pub fn present_byte(mem: &[u8], i: usize) -> u32
+    requires { ⌜ i < length (now mem) ⌝ }
+    ensures { λ r. ⌜ (r ≡ at (now (mem .entry)) i) × (r < 256) ⌝ }
+{
+    wide(mem[i])
+}
+
 fn slow(mem: &[u8], i: usize) -> u32
     requires { ⌜ i < 2 ^ 46 ⌝ }
     ensures { λ r. ⌜ r ≡ dwordAt (now (mem .entry)) i ⌝ }
@@ -57,7 +65,8 @@ fn slow(mem: &[u8], i: usize) -> u32
         + 16777216 * byte_at(mem, i + 3)
 }
 
-fn fast(mem: &[u8], i: usize) -> u32
+// The dword at an index, where all of it is there.
+pub fn present_dword(mem: &[u8], i: usize) -> u32
     requires { ⌜ i + 3 < length (now mem) ⌝ }
     ensures { λ r. ⌜ r ≡ dwordAt (now (mem .entry)) i ⌝ }
 {
@@ -70,7 +79,7 @@ pub fn dword(mem: &[u8], i: usize) -> u32
     ensures { λ r. ⌜ r ≡ dwordAt (now (mem .entry)) i ⌝ }
 {
     if i + 3 < mem.len() {
-        fast(mem, i)
+        present_dword(mem, i)
     } else {
         slow(mem, i)
     }
