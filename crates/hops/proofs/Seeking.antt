@@ -168,13 +168,13 @@ module _ (m : Mem) (i v : ℕ) where
   abbrev three : Mem
   three = set two (i + 2) (v / 65536 % 256)
 
-  abbrev four : Mem
+  abbrev pub four : Mem
   four = set three (i + 3) (v / 16777216 % 256)
 
-  four-length : length four ≡ length m
+  pub four-length : length four ≡ length m
   four-length = length-set three (i + 3) (v / 16777216 % 256) ∙ length-set two (i + 2) (v / 65536 % 256) ∙ length-set one (i + 1) (v / 256 % 256) ∙ length-set m i (v % 256)
 
-  four-agree : (f : ℕ) → (i / 4096 ≡ f → ⊥) → ((i + 3) / 4096 ≡ f → ⊥) → Agree m four f
+  pub four-agree : (f : ℕ) → (i / 4096 ≡ f → ⊥) → ((i + 3) / 4096 ≡ f → ⊥) → Agree m four f
   four-agree f a b j h =
       let n0 : j ≡ i → ⊥ = λ e. a (omega arith) in
       let n1 : j ≡ i + 1 → ⊥ = λ e. apart j 1 h a b (omega arith) e in

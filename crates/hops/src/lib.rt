@@ -127,15 +127,23 @@ fn put(mem: &mut [u8], i: usize, b: u8)
     }
 }
 
+// Stores a dword, where all of it is there.
+pub fn put_present(mem: &mut [u8], i: usize, v: u32)
+    requires { ⌜ i + 3 < length (now mem) ⌝ }
+    ensures { λ r. ⌜ now (mem .exit) ≡ set (set (set (set (now (mem .entry)) i (v % 256)) (i + 1) (v / 256 % 256)) (i + 2) (v / 65536 % 256)) (i + 3) (v / 16777216 % 256) ⌝ }
+{
+    mem[i] = (v % 256) as u8;
+    mem[i + 1] = (v / 256 % 256) as u8;
+    mem[i + 2] = (v / 65536 % 256) as u8;
+    mem[i + 3] = (v / 16777216 % 256) as u8;
+}
+
 pub fn put_dword(mem: &mut [u8], i: usize, v: u32)
     requires { ⌜ i < 4294967296 ⌝ }
     ensures { λ r. ⌜ now (mem .exit) ≡ set (set (set (set (now (mem .entry)) i (v % 256)) (i + 1) (v / 256 % 256)) (i + 2) (v / 65536 % 256)) (i + 3) (v / 16777216 % 256) ⌝ }
 {
     if i + 3 < mem.len() {
-        mem[i] = (v % 256) as u8;
-        mem[i + 1] = (v / 256 % 256) as u8;
-        mem[i + 2] = (v / 65536 % 256) as u8;
-        mem[i + 3] = (v / 16777216 % 256) as u8;
+        put_present(mem, i, v);
         return;
     }
     put(mem, i, (v % 256) as u8);

@@ -1,45 +1,12 @@
-use lib.ListN.{length}
-use Prim.Native.Nat.{_+_, _<_}
 use borrow.Author.Needs.{needs}
-use native.Mathlib.Omega.{arith}
 use Rattle.hops.proofs.put_dword.Statement.{statement}
 use Rattle.hops.proofs.put_dword.Tie as tie
 
 add-if1 : tie.Need-add-if1
 add-if1 c = search needs
 
-cast-mem : tie.Need-cast-mem
-cast-mem c = search needs
-
-slice-write-mem : tie.Need-slice-write-mem
-slice-write-mem c = search needs
-
-cast-mem-2 : tie.Need-cast-mem-2
-cast-mem-2 c = search needs
-
-add-mem : tie.Need-add-mem
-add-mem c = search needs
-
-slice-write-mem-2 : tie.Need-slice-write-mem-2
-slice-write-mem-2 c = let h : (c .before .before .args .i) + 1 < length (c .before .before .args .mem .now) = omega (arith, (c .if1 .taken)) in search (needs, h)
-
-cast-mem-3 : tie.Need-cast-mem-3
-cast-mem-3 c = search needs
-
-add-mem-2 : tie.Need-add-mem-2
-add-mem-2 c = search needs
-
-slice-write-mem-3 : tie.Need-slice-write-mem-3
-slice-write-mem-3 c = let h : (c .before .before .args .i) + 2 < length (c .before .before .args .mem .now) = omega (arith, (c .if1 .taken)) in search (needs, h)
-
-cast-mem-4 : tie.Need-cast-mem-4
-cast-mem-4 c = search needs
-
-add-mem-3 : tie.Need-add-mem-3
-add-mem-3 c = search needs
-
-slice-write-mem-4 : tie.Need-slice-write-mem-4
-slice-write-mem-4 c = search needs
+put-present-requires : tie.Need-put-present-requires
+put-present-requires c κs = search needs
 
 same-length : tie.Need-same-length
 same-length c = search needs
@@ -91,17 +58,7 @@ put-dword-spec =
     tie.close
     (tie.spec
     add-if1
-    cast-mem
-    slice-write-mem
-    cast-mem-2
-    add-mem
-    slice-write-mem-2
-    cast-mem-3
-    add-mem-2
-    slice-write-mem-3
-    cast-mem-4
-    add-mem-3
-    slice-write-mem-4
+    put-present-requires
     same-length
     returns
     cast-put
