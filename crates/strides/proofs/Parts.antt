@@ -1,11 +1,11 @@
 -- The small parts: byte registers, and what a store of a dword leaves as it was.
 -- Assumes nothing.
-use Prim.Native.Nat.{ℕ, _+_, _*_, _/_, _%_, _<_}
-use mathlib.Core.Path.{_≡_, refl, ap, _∙_}
+use Prim.Native.Nat.{ℕ, _+_, _*_, _/_, _%_, _<_, _≤_}
+use mathlib.Core.Path.{_≡_, refl, sym, ap, _∙_}
 use mathlib.Core.Bool.{Bool, true, false, not, _||_, false≢true}
 use mathlib.Core.List.{List}
 use native.Mathlib.Omega.{arith}
-use borrow.Author.Tests.{ne-eqb}
+use borrow.Author.Tests.{ne-eqb, eqb-false}
 use lib.Dec.{eqb}
 use lib.ListN.{getD, set}
 use Rattle.machine.specs.declared.Control.{Control}
@@ -13,10 +13,9 @@ use Rattle.machine.specs.Record.{Mem, readAt, writeAt}
 use Rattle.machine.specs.Paging.{dirFrame}
 use Rattle.keptpages.specs.Quiet.{Agree}
 use Rattle.outcome.specs.Outcome.{file}
-use Rattle.forms.specs.Forms.{nothing}
 use Rattle.shortcut.proofs.Small.{or-left, or-right}
 use Rattle.hops.specs.Hops.{Spared}
-use Rattle.hops.proofs.Seeking.{put-there, sparing}
+use Rattle.hops.proofs.Seeking.{four-length, four-agree}
 
 -- ---- byte registers
 
@@ -45,29 +44,29 @@ Answers m m′ c t b r = (not (eqb r 3) ≡ true → Spared m m′ c t) × ((r �
 
 module _ (m : Mem) (c : Control) (t b i v : ℕ) {m′ : Mem}
     (is : m′ ≡ set (set (set (set m i (v % 256)) (i + 1) (v / 256 % 256)) (i + 2) (v / 65536 % 256)) (i + 3) (v / 16777216 % 256)) where
-  abbrev touches : ℕ → Bool
-  touches f = eqb (i / 4096) f || eqb ((i + 3) / 4096) f
-
-  -- neither in frame f nor in the directory's
-  spared : (f : ℕ) → (eqb (i / 4096) f || eqb ((i + 3) / 4096) f || eqb (i / 4096) (dirFrame c) || eqb ((i + 3) / 4096) (dirFrame c)) ≡ false → Spared m m′ c f
-  spared f h = sparing m c f nothing i v (is ∙ put-there m nothing i v refl) (ap not h)
-
   pub others : Answers m m′ c t b 3
   others = (λ h. absurd (false≢true h), (λ h. absurd (apart h), refl))
     where
       apart : _≡_ {A = ℕ} 3 0 → ⊥
       apart h = omega (arith, h)
 
-  module _ (maps : (eqb (i / 4096) t || eqb ((i + 3) / 4096) t || eqb (i / 4096) (dirFrame c) || eqb ((i + 3) / 4096) (dirFrame c)) ≡ false) where
-    pub on-page : Answers m m′ c t b 2
-    on-page = (λ _. spared t maps, (λ h. absurd (apart h), refl))
-      where
-        apart : _≡_ {A = ℕ} 2 0 → ⊥
-        apart h = omega (arith, h)
+  -- all of it is in one frame, so that only that one is changed
+  module _ (room : i % 4096 ≤ 4092) where
+    leaves : (f : ℕ) → eqb (i / 4096) f ≡ false → Agree m m′ f
+    leaves f h =
+        let n : i / 4096 ≡ f → ⊥ = eqb-false _ _ h in
+        let k : (i + 3) / 4096 ≡ i / 4096 = omega (arith, room) in
+        rw is (four-agree m i v f n (λ z. n (sym k ∙ z)))
 
-    pub elsewhere : touches b ≡ false → Answers m m′ c t b 0
-    elsewhere h =
-        let three = or-left (touches t || eqb (i / 4096) (dirFrame c)) (eqb ((i + 3) / 4096) (dirFrame c)) maps in
-        let x : eqb (i / 4096) (dirFrame c) ≡ false = or-right (touches t) (eqb (i / 4096) (dirFrame c)) three in
-        let y : eqb ((i + 3) / 4096) (dirFrame c) ≡ false = or-right (touches t || eqb (i / 4096) (dirFrame c)) (eqb ((i + 3) / 4096) (dirFrame c)) maps in
-        (λ _. spared t maps, (λ _. spared b (rw (h, x, y)) .1 .1, refl))
+    module _ (maps : (eqb (i / 4096) t || eqb (i / 4096) (dirFrame c)) ≡ false) where
+      spared : Spared m m′ c t
+      spared = (rw is (four-length m i v), (leaves (dirFrame c) (or-right (eqb (i / 4096) t) (eqb (i / 4096) (dirFrame c)) maps), leaves t (or-left (eqb (i / 4096) t) (eqb (i / 4096) (dirFrame c)) maps)))
+
+      pub on-page : Answers m m′ c t b 2
+      on-page = (λ _. spared, (λ h. absurd (apart h), refl))
+        where
+          apart : _≡_ {A = ℕ} 2 0 → ⊥
+          apart h = omega (arith, h)
+
+      pub elsewhere : (i / 4096 ≡ b → ⊥) → Answers m m′ c t b 0
+      elsewhere h = (λ _. spared, (λ _. leaves b (ne-eqb (i / 4096) b h), refl))

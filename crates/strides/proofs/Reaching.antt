@@ -17,6 +17,7 @@ use Rattle.alu.specs.Brief.{statusIn, outIn}
 use Rattle.machine.specs.declared.Control.{Control}
 use Rattle.machine.specs.Record.{Mem, at, wrap, readAt, writeAt}
 use Rattle.machine.specs.Paging.{dwordAt}
+use Rattle.paging.proofs.Pages.{there}
 use Rattle.keptpages.specs.declared.Kept.{Kept}
 use Rattle.keptpages.specs.Quiet.{Quiet, Agree, HeldOk}
 use Rattle.outcome.specs.declared.Fast.{Fast}
@@ -103,21 +104,37 @@ module _ (f : Form) (e : List ℕ) (eip : ℕ) (s : Status) where
   unfolding meant
   pushes-number k = rw k
 
+-- ---- what is at hand
+
+-- the byte at l is on a page at hand, at index i
+abbrev AtHand : ℕ → List ℕ → Bool → ℕ → ℕ → Type 0
+AtHand t d w l i = (m : Mem) (c : Control) → HeldOk m c t d → Quiet m c w l (record { 0 = i })
+
+-- and so is the dword
+abbrev Near : ℕ → List ℕ → Bool → ℕ → ℕ → Type 0
+Near t d w l i = (l % 4096 ≤ 4092) × (AtHand t d w l i)
+
+module _ {m : Mem} {c : Control} {r : Rest} {h : Kept} {d : List ℕ} (stands : Stands m c h d r) {w : Bool} {l i : ℕ} where
+  pub byte-there : AtHand (h .table) d w l i → (i < length m) × (i % 4096 ≡ l % 4096)
+  byte-there near = there m c w l i (sym (near m c (stands .pages .1) .walked .reached))
+
+  -- memory ends where a page does
+  pub dword-there : Near (h .table) d w l i → (i + 3 < length m) × (i % 4096 ≤ 4092)
+  dword-there near =
+      let k = byte-there (near .1) in
+      (omega (arith, stands .size, near .0, k .0, k .1), omega (arith, near .0, k .1))
+
 -- ---- a form, where it stands
 
 module _ (m : Mem) (e : List ℕ) (c : Control) (r : Rest) (h : Kept) (d : List ℕ) (f : Form) (stands : Stands m c h d r) where
   abbrev s : Status
   s = statusIn (r .flags)
 
-  -- the byte at l is on a page at hand, at index i, and so is the dword
-  abbrev Near : Bool → ℕ → ℕ → Type 0
-  Near w l i = (l % 4096 ≤ 4092) × ((m : Mem) (c : Control) → HeldOk m c (h .table) d → Quiet m c w l (record { 0 = i }))
-
   -- the access is found at index i, with the value u and the operands x and y
-  found-near : (p : Fast) {l i : ℕ} (v u x y : ℕ) → l ≡ p .at → p .at < 4294967296 → (p .access ≡ 0 → ⊥) → Near (stores p) l i
+  found-near : (p : Fast) {l i : ℕ} (v u x y : ℕ) → l ≡ p .at → p .at < 4294967296 → (p .access ≡ 0 → ⊥) → (p .wide ≡ true → l % 4096 ≤ 4092) → AtHand (h .table) d (stores p) l i
       → v ≡ cond (p .wide) (dwordAt m i) (at m i) → Holds p v (record { found = true; at = i; value = u; x = x; y = y }) → Reaches m c p (record { found = true; at = i; value = u; x = x; y = y })
-  found-near p {l} {i} v u x y el small n near ev k =
-      reached m c p (stands .size) small (record { 0 = i }) (rw el at (near .1 m c (stands .pages .1))) (record { found = true; at = i; value = u; x = x; y = y }) v n (λ _. rw el at (near .0)) ev refl k
+  found-near p {l} {i} v u x y el small n room near ev k =
+      reached m c p (stands .size) small (record { 0 = i }) (rw el at (near m c (stands .pages .1))) (record { found = true; at = i; value = u; x = x; y = y }) v n (λ z. rw el at (room z)) ev refl k
 
   module _ (here : Here m h r f) (known : (length e ≡ 8) × ((n : ℕ) → getD e n 0 < 4294967296)) where
     -- the instruction p, with its access found
@@ -140,12 +157,12 @@ module _ (m : Mem) (e : List ℕ) (c : Control) (r : Rest) (h : Kept) (d : List 
       abbrev reads : Fast
       reads = working op wide 2 (spotIn f e) x y (taking op (f .a)) (nextIn f (r .eip))
 
-      worked : {l i : ℕ} → l ≡ spotIn f e → Near false l i → v ≡ cond wide (dwordAt m i) (at m i) → v < 4294967296 → {e′ : List ℕ} {o : Out} (b : Brief)
+      worked : {l i : ℕ} → l ≡ spotIn f e → (wide ≡ true → l % 4096 ≤ 4092) → AtHand (h .table) d false l i → v ≡ cond wide (dwordAt m i) (at m i) → v < 4294967296 → {e′ : List ℕ} {o : Out} (b : Brief)
           → o ≡ outOf op wide x v s → e′ ≡ depositOf reads (file e) (o .value) .e → next ≡ nextIn f (r .eip) → statusIn b ≡ o .status
           → EndedOk m e c r h d f m e′ (record { status = 0; rest = record { eip = next; flags = b } })
       unfolding saved stacked
-      worked {l} {i} el near ev few b eo ee en es =
-          ended reads is refl i v x v (found-near reads v v x v el (omega arith) (none 0 refl) near ev (read reads v _ (none 0 refl) (none 4 refl) refl refl refl)) few
+      worked {l} {i} el room near ev few b eo ee en es =
+          ended reads is refl i v x v (found-near reads v v x v el (omega arith) (none 0 refl) room near ev (read reads v _ (none 0 refl) (none 4 refl) refl refl refl)) few
           (record { status = 0; rest = record { eip = next; flags = b } }) eo refl ee en es refl (λ _. (refl, (λ _ _. refl, λ _ _. refl))) (λ _. (en, λ _ _. refl))
         where
           none : (n : ℕ) → (n % 4 ≡ 0) → 2 ≡ n → ⊥
@@ -160,7 +177,7 @@ module _ (m : Mem) (e : List ℕ) (c : Control) (r : Rest) (h : Kept) (d : List 
       to-none g u = rw g
 
     -- POP and RET
-    popped : (k n v : ℕ) → 5 ≤ k → (eqb k 5 || eqb k 6) ≡ true → meant f e (r .eip) s ≡ popFast e k n (nextIn f (r .eip)) → {l i : ℕ} → l ≡ reg e 4 → Near false l i → v ≡ dwordAt m i
+    popped : (k n v : ℕ) → 5 ≤ k → (eqb k 5 || eqb k 6) ≡ true → meant f e (r .eip) s ≡ popFast e k n (nextIn f (r .eip)) → {l i : ℕ} → l ≡ reg e 4 → Near (h .table) d false l i → v ≡ dwordAt m i
         → v < 4294967296 → {e′ : List ℕ} (w : Ended) → e′ ≡ depositOf (popFast e k n (nextIn f (r .eip))) (file (set e 4 (wrap (reg e 4 + 4)))) v .e
         → w .rest .eip ≡ cond (eqb k 6) v (nextIn f (r .eip)) → statusIn (w .rest .flags) ≡ s → not (eqb (w .status) 1) ≡ true → (w .status ≡ 0 → w .rest .eip ≡ nextIn f (r .eip))
         → EndedOk m e c r h d f m e′ w
@@ -168,13 +185,13 @@ module _ (m : Mem) (e : List ℕ) (c : Control) (r : Rest) (h : Kept) (d : List 
     popped k n v five top is {l} {i} el near ev few {e′} w ee ei es done after =
         let p : Fast = popFast e k n (nextIn f (r .eip)) in
         let still : stores p ≡ false = rw (no 3 (omega arith), no 4 (omega arith)) in
-        let near′ : Near (stores p) l i = rw still near in
+        let near′ : AtHand (h .table) d (stores p) l i = rw still (near .1) in
         let value : v ≡ cond true (dwordAt m i) (at m i) = ev in
         let left : _≡_ {A = ℕ} 0 (cond (eqb k 1 || eqb k 3) v 0) = rw (no 1 (omega arith), no 3 (omega arith)) in
         let right : v ≡ cond (eqb k 1 || eqb k 3) 0 v = rw (no 1 (omega arith), no 3 (omega arith)) in
         let unsaved : m ≡ saved p i v m = rw still in
         let regs : e′ ≡ registersAfter p (file e) v .e = rw (no 4 (omega arith), top) ee in
-        ended p is refl i v 0 v (found-near p v v 0 v el (known .1 4) (λ z. omega (arith, five, z)) near′ value (read p v _ (λ z. omega (arith, five, z)) (λ z. omega (arith, five, z)) refl left right)) few w
+        ended p is refl i v 0 v (found-near p v v 0 v el (known .1 4) (λ z. omega (arith, five, z)) (λ _. near .0) near′ value (read p v _ (λ z. omega (arith, five, z)) (λ z. omega (arith, five, z)) refl left right)) few w
         (move-out 9 0 v true s (omega arith) few refl) unsaved regs ei es done (λ _. (refl, (λ _ _. refl, λ _ _. refl))) (λ z. (after z, λ _ _. refl))
       where
         no : (n : ℕ) → n < 5 → eqb k n ≡ false
@@ -194,7 +211,7 @@ module _ (m : Mem) (e : List ℕ) (c : Control) (r : Rest) (h : Kept) (d : List 
         let on : w .rest .eip ≡ nextOf p u = rw six ei in
         ended p is refl i u x v found few w (move-out 9 x v true s hx hv refl) kept ee on es done spared after
 
-    pub kept : f .kind ≡ 64 → ((n : ℕ) → at m n < 256) → {l i v n next : ℕ} → l ≡ spotIn f e → Near true l i → v ≡ reg e (f .a) → {m′ : Mem}
+    pub kept : f .kind ≡ 64 → ((n : ℕ) → at m n < 256) → {l i v n next : ℕ} → l ≡ spotIn f e → Near (h .table) d true l i → v ≡ reg e (f .a) → {m′ : Mem}
         → m′ ≡ set (set (set (set m i (v % 256)) (i + 1) (v / 256 % 256)) (i + 2) (v / 65536 % 256)) (i + 3) (v / 16777216 % 256)
         → Answers m m′ c (h .table) (h .base / 4096) n → next ≡ nextIn f (r .eip)
         → EndedOk m e c r h d f m′ e (record { status = n; rest = record { eip = next; flags = r .flags } })
@@ -203,7 +220,7 @@ module _ (m : Mem) (e : List ℕ) (c : Control) (r : Rest) (h : Kept) (d : List 
         let p : Fast = working 9 true 3 (spotIn f e) (reg e (f .b)) v 8 (nextIn f (r .eip)) in
         let is : meant f e (r .eip) s ≡ p = rw ev (keeps f e (r .eip) s k) in
         stored 3 (spotIn f e) (reg e (f .b)) v (nextIn f (r .eip)) i (dwordAt m i) (dwordAt m i) is refl refl
-        (found-near p (dwordAt m i) (dwordAt m i) (dwordAt m i) v el (omega arith) (none 0 refl) near refl (read p (dwordAt m i) _ (none 0 refl) (none 4 refl) refl refl refl))
+        (found-near p (dwordAt m i) (dwordAt m i) (dwordAt m i) v el (omega arith) (none 0 refl) (λ _. near .0) (near .1) refl (read p (dwordAt m i) _ (none 0 refl) (none 4 refl) refl refl refl))
         (dword-small m i bytes) (dword-small m i bytes) (rw ev (known .1 (f .a))) (record { status = n; rest = record { eip = next; flags = r .flags } })
         em refl en refl (told .1 .1) (told .0) (λ z. (en, told .1 .0 z))
       where
@@ -211,7 +228,7 @@ module _ (m : Mem) (e : List ℕ) (c : Control) (r : Rest) (h : Kept) (d : List 
         none n g z = omega (arith, g, z)
 
     -- v is pushed, and the program goes on at `to`
-    pushed-on : (to v : ℕ) → meant f e (r .eip) s ≡ pushFast e v to → v < 4294967296 → {l i : ℕ} → l ≡ wrap (reg e 4 + 4294967292) → Near true l i → {m′ : Mem} {e′ : List ℕ} (w : Ended)
+    pushed-on : (to v : ℕ) → meant f e (r .eip) s ≡ pushFast e v to → v < 4294967296 → {l i : ℕ} → l ≡ wrap (reg e 4 + 4294967292) → Near (h .table) d true l i → {m′ : Mem} {e′ : List ℕ} (w : Ended)
         → m′ ≡ set (set (set (set m i (v % 256)) (i + 1) (v / 256 % 256)) (i + 2) (v / 65536 % 256)) (i + 3) (v / 16777216 % 256)
         → e′ ≡ set e 4 l → w .rest .eip ≡ to → w .rest .flags ≡ r .flags
         → not (eqb (w .status) 1) ≡ true → (not (eqb (w .status) 3) ≡ true → Spared m m′ c (h .table))
@@ -220,7 +237,7 @@ module _ (m : Mem) (e : List ℕ) (c : Control) (r : Rest) (h : Kept) (d : List 
     pushed-on to v is hv {l} {i} el near w em ee ei es done spared after =
         let p : Fast = pushFast e v to in
         stored 4 (wrap (reg e 4 + 4294967292)) 0 v to i 0 0 is refl refl
-        (found-near p (dwordAt m i) 0 0 v el (omega arith) none near refl (pushed p (dwordAt m i) _ refl refl refl refl))
+        (found-near p (dwordAt m i) 0 0 v el (omega arith) none (λ _. near .0) (near .1) refl (pushed p (dwordAt m i) _ refl refl refl refl))
         (omega arith) (omega arith) hv w em (ee ∙ ap (λ (z : ℕ). set e 4 z) el) ei (ap statusIn es) done spared after
       where
         none : _≡_ {A = ℕ} 4 0 → ⊥
@@ -231,18 +248,18 @@ module _ (m : Mem) (e : List ℕ) (c : Control) (r : Rest) (h : Kept) (d : List 
     abbrev done-at : ℕ → Brief → Ended
     done-at next b = record { status = 0; rest = record { eip = next; flags = b } }
 
-    module _ {l i next : ℕ} (el : l ≡ spotIn f e) (near : Near false l i) (en : next ≡ nextIn f (r .eip)) where
+    module _ {l i next : ℕ} (el : l ≡ spotIn f e) (near : Near (h .table) d false l i) (en : next ≡ nextIn f (r .eip)) where
       pub loaded : f .kind ≡ 41 → {v : ℕ} {e′ : List ℕ} → v ≡ dwordAt m i → v < 4294967296 → e′ ≡ set e (f .a) v → EndedOk m e c r h d f m e′ (done-at next (r .flags))
       unfolding writeAt
       loaded k {v} ev few ee =
           let is = loads f e (r .eip) s k in
-          worked 9 (reg e (f .a)) (reg e (f .b)) v next true is el near ev few (r .flags) (move-out 9 (reg e (f .a)) v true s (known .1 (f .a)) few refl)
+          worked 9 (reg e (f .a)) (reg e (f .b)) v next true is el (λ _. near .0) (near .1) ev few (r .flags) (move-out 9 (reg e (f .a)) v true s (known .1 (f .a)) few refl)
           (to-register 9 (reg e (f .a)) (reg e (f .b)) v next true is (here .1 .a) refl v ee) en refl
 
       module _ (k : f .kind / 8 ≡ 4) {x v : ℕ} (o : Short) (ex : x ≡ reg e (f .a)) (ev : v ≡ dwordAt m i) (few : v < 4294967296) (eo : outIn o ≡ outOf (f .kind - 32) true x v s) where
         by-dword : {e′ : List ℕ} → e′ ≡ depositOf (byMemory f (f .kind - 32) e (r .eip)) (file e) (o .value) .e → EndedOk m e c r h d f m e′ (done-at next (o .flags))
         by-dword ee =
-            worked (f .kind - 32) (reg e (f .a)) (reg e (f .b)) v next true (combines f e (r .eip) s k) el near ev few (o .flags)
+            worked (f .kind - 32) (reg e (f .a)) (reg e (f .b)) v next true (combines f e (r .eip) s k) el (λ _. near .0) (near .1) ev few (o .flags)
             (eo ∙ ap (λ (z : ℕ). outOf (f .kind - 32) true z v s) ex) ee en refl
 
         pub combined : (f .kind ≡ 39 → ⊥) → {e′ : List ℕ} → e′ ≡ set e (f .a) (o .value) → EndedOk m e c r h d f m e′ (done-at next (o .flags))
@@ -259,26 +276,27 @@ module _ (m : Mem) (e : List ℕ) (c : Control) (r : Rest) (h : Kept) (d : List 
             let w : writes (f .kind - 32) ≡ false = rw n in
             by-dword (to-none (f .kind - 32) (reg e (f .a)) (reg e (f .b)) v next true (combines f e (r .eip) s k) w (o .value))
 
-      module _ {y : ℕ} (ey : y ≡ at m i) (small : y < 256) where
-        few-byte : y < 4294967296
-        few-byte = omega (arith, small)
+    module _ {l i y next : ℕ} (el : l ≡ spotIn f e) (near : AtHand (h .table) d false l i) (en : next ≡ nextIn f (r .eip)) (ey : y ≡ at m i) (small : y < 256) where
+      narrow : _≡_ {A = Bool} false true → l % 4096 ≤ 4092
+      narrow z = absurd (false≢true z)
 
-        pub byte-loaded : f .kind ≡ 73 → {e′ : List ℕ} → e′ ≡ writeAt false (file e) (f .a) (y % 256) .e → EndedOk m e c r h d f m e′ (done-at next (r .flags))
-        byte-loaded k ee =
-            let is = moves-byte f e (r .eip) s k in
-            let z : y % 256 ≡ y = omega (arith, small) in
-            worked 9 (readAt false (file e) (f .a)) (readAt false (file e) (f .b)) y next false is el near ey few-byte (r .flags) (byte-moved e (f .a) y s small)
-            (to-register 9 (readAt false (file e) (f .a)) (readAt false (file e) (f .b)) y next false is (here .1 .a) refl y (rw z at ee)) en refl
+      few-byte : y < 4294967296
+      few-byte = omega (arith, small)
 
-        pub byte-compared : (eqb (f .kind) 72 || eqb (f .kind) 73) ≡ true → (f .kind ≡ 73 → ⊥) → {x : ℕ} (o : Short) → x ≡ readAt false (file e) (f .a) → outIn o ≡ outOf 7 false x (y % 256) s
-            → EndedOk m e c r h d f m e (done-at next (o .flags))
-        byte-compared h′ n {x} o ex eo =
-            let is = compares-byte f e (r .eip) s (eqb-true (f .kind) 72 (first-of (eqb (f .kind) 72) (eqb (f .kind) 73) h′ (ne-eqb (f .kind) 73 n))) in
-            let z : y % 256 ≡ y = omega (arith, small) in
-            worked 7 (readAt false (file e) (f .a)) (readAt false (file e) (f .b)) y next false is el near ey few-byte (o .flags)
-            (eo ∙ (λ j. outOf 7 false (ex j) (z j) s)) (to-none 7 (readAt false (file e) (f .a)) (readAt false (file e) (f .b)) y next false is refl (o .value)) en refl
+      pub byte-loaded : f .kind ≡ 73 → {e′ : List ℕ} → e′ ≡ writeAt false (file e) (f .a) y .e → EndedOk m e c r h d f m e′ (done-at next (r .flags))
+      byte-loaded k ee =
+          let is = moves-byte f e (r .eip) s k in
+          worked 9 (readAt false (file e) (f .a)) (readAt false (file e) (f .b)) y next false is el narrow near ey few-byte (r .flags) (byte-moved e (f .a) y s small)
+          (to-register 9 (readAt false (file e) (f .a)) (readAt false (file e) (f .b)) y next false is (here .1 .a) refl y ee) en refl
 
-    module _ {l i v t : ℕ} {e₁ : List ℕ} (el : l ≡ reg e 4) (near : Near false l i) (ev : v ≡ dwordAt m i) (few : v < 4294967296) (et : t ≡ wrap (l + 4)) (ee : e₁ ≡ set e 4 t) where
+      pub byte-compared : (eqb (f .kind) 72 || eqb (f .kind) 73) ≡ true → (f .kind ≡ 73 → ⊥) → {x : ℕ} (o : Short) → x ≡ readAt false (file e) (f .a) → outIn o ≡ outOf 7 false x y s
+          → EndedOk m e c r h d f m e (done-at next (o .flags))
+      byte-compared h′ n {x} o ex eo =
+          let is = compares-byte f e (r .eip) s (eqb-true (f .kind) 72 (first-of (eqb (f .kind) 72) (eqb (f .kind) 73) h′ (ne-eqb (f .kind) 73 n))) in
+          worked 7 (readAt false (file e) (f .a)) (readAt false (file e) (f .b)) y next false is el narrow near ey few-byte (o .flags)
+          (eo ∙ ap (λ (z : ℕ). outOf 7 false z y s) ex) (to-none 7 (readAt false (file e) (f .a)) (readAt false (file e) (f .b)) y next false is refl (o .value)) en refl
+
+    module _ {l i v t : ℕ} {e₁ : List ℕ} (el : l ≡ reg e 4) (near : Near (h .table) d false l i) (ev : v ≡ dwordAt m i) (few : v < 4294967296) (et : t ≡ wrap (l + 4)) (ee : e₁ ≡ set e 4 t) where
       raised : e₁ ≡ set e 4 (wrap (reg e 4 + 4))
       raised = ee ∙ ap (λ (z : ℕ). set e 4 z) (et ∙ ap (λ (z : ℕ). wrap (z + 4)) el)
 
@@ -298,7 +316,7 @@ module _ (m : Mem) (e : List ℕ) (c : Control) (r : Rest) (h : Kept) (d : List 
           apart : _≡_ {A = ℕ} 2 0 → ⊥
           apart z = omega (arith, z)
 
-    module _ {x l i v n next : ℕ} {m′ : Mem} {e′ : List ℕ} (ex : x ≡ reg e 4) (el : l ≡ wrap (x + 4294967292)) (near : Near true l i)
+    module _ {x l i v n next : ℕ} {m′ : Mem} {e′ : List ℕ} (ex : x ≡ reg e 4) (el : l ≡ wrap (x + 4294967292)) (near : Near (h .table) d true l i)
         (few : v < 4294967296)
         (em : m′ ≡ set (set (set (set m i (v % 256)) (i + 1) (v / 256 % 256)) (i + 2) (v / 65536 % 256)) (i + 3) (v / 16777216 % 256)) (ee : e′ ≡ set e 4 l)
         (told : Answers m m′ c (h .table) (h .base / 4096) n) (en : next ≡ nextIn f (r .eip)) where

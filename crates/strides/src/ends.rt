@@ -4,7 +4,7 @@ ghost use mathlib.Core.Bool.{true, false, not, cond};
 ghost use Prim.Native.Nat.{ℕ, _+_, _/_, _%_, _<_, _≤_};
 ghost use lib.ListN.{length, getD, set};
 ghost use lib.Dec.{eqb};
-ghost use Rattle.machine.specs.Record.{Mem, readAt, writeAt, wrap};
+ghost use Rattle.machine.specs.Record.{Mem, readAt, writeAt};
 ghost use Rattle.machine.specs.declared.Control.{Control};
 ghost use Rattle.keptpages.specs.Quiet.{HeldOk, Quiet, Agree};
 ghost use Rattle.outcome.specs.Outcome.{file};
@@ -93,9 +93,9 @@ pub fn wrote(e: &mut [u32; 8], n: u32, eip: u32, o: Short) -> Ended
     onward(eip, g, 0)
 }
 
-// Where the dword at l lies, if all of it is on a page that is at hand.
-pub fn reach(d: &[u64; 32], table: u32, w: bool, l: u32) -> Spot
-    ensures { λ r. ⌜ (r .found ≡ true → (l % 4096 ≤ 4092) × ((m : Mem) (c : Control) → HeldOk m c table (now (d .entry)) → Quiet m c w l (record { 0 = r .at }))) ⌝ }
+// Where the byte at l lies, if its page is at hand.
+pub fn touch(d: &[u64; 32], table: u32, w: bool, l: u32) -> Spot
+    ensures { λ r. ⌜ (r .found ≡ true → (m : Mem) (c : Control) → HeldOk m c table (now (d .entry)) → Quiet m c w l (record { 0 = r .at })) ⌝ }
 {
     let q = keptpages::held::peek(d, table, w, l);
     let Settled::Ready(at) = q else {
@@ -104,27 +104,34 @@ pub fn reach(d: &[u64; 32], table: u32, w: bool, l: u32) -> Spot
             at: 0,
         };
     };
+    Spot { found: true, at }
+}
+
+// Where the dword at l lies, if all of it is on a page that is at hand.
+pub fn reach(d: &[u64; 32], table: u32, w: bool, l: u32) -> Spot
+    ensures { λ r. ⌜ (r .found ≡ true → (l % 4096 ≤ 4092) × ((m : Mem) (c : Control) → HeldOk m c table (now (d .entry)) → Quiet m c w l (record { 0 = r .at }))) ⌝ }
+{
+    let q = touch(d, table, w, l);
     if 4092 < l % 4096 {
         return Spot {
             found: false,
             at: 0,
         };
     }
-    Spot { found: true, at }
+    q
 }
 
-// Stores a dword at i; answers 3 where the pages that are kept may be others, 2 where the code page has changed, else 0.
+// Stores a dword at i, all on one page; answers 3 where the pages that are kept may be others, 2 where the code page has changed, else 0.
 pub fn store(mem: &mut [u8], c: Control, h: Kept, i: u32, v: u32) -> u32
+    requires { ⌜ (i + 3 < length (now mem)) × (i % 4096 ≤ 4092) ⌝ }
     ensures { λ r. ⌜ (now (mem .exit) ≡ set (set (set (set (now (mem .entry)) i (v % 256)) (i + 1) (v / 256 % 256)) (i + 2) (v / 65536 % 256)) (i + 3) (v / 16777216 % 256)) × ((not (eqb r 3) ≡ true → Spared (now (mem .entry)) (now (mem .exit)) c (h .table)) × ((r ≡ 0 → Agree (now (mem .entry)) (now (mem .exit)) (h .base / 4096)) × (not (eqb r 1) ≡ true))) ⌝ }
 {
-    hops::put_dword(mem, i as usize, v);
-    let first = i / 4096;
-    let last = ((i as u64 + 3) / 4096) as u32;
-    let dir = c.cr3 / 4096;
-    if (first == h.table) | (last == h.table) | (first == dir) | (last == dir) {
+    hops::put_present(mem, i as usize, v);
+    let frame = i / 4096;
+    if (frame == h.table) | (frame == c.cr3 / 4096) {
         return 3;
     }
-    if (first == h.base / 4096) | (last == h.base / 4096) {
+    if frame == h.base / 4096 {
         return 2;
     }
     0

@@ -52,7 +52,7 @@ pub fn load(
     if !q.found {
         return stuck(r);
     }
-    put(e, f.a, paging::dword(mem, q.at as usize));
+    put(e, f.a, paging::present_dword(mem, q.at as usize));
     let s = r.flags;
     onward(next, s, 0)
 }
@@ -80,7 +80,7 @@ pub fn combine(
     let o = outcome::dwords(
         f.kind - 32,
         register(e, f.a),
-        paging::dword(mem, q.at as usize),
+        paging::present_dword(mem, q.at as usize),
         s,
     );
     if f.kind == 39 {
@@ -105,17 +105,17 @@ pub fn from_byte(
     ensures { λ w. ⌜ EndedOk (now (mem .entry)) (now (e .entry)) c r h (now (d .entry)) f (now (mem .entry)) (now (e .exit)) w ⌝ }
 {
     eight(e);
-    let q = reach(d, h.table, false, spot(e, f));
+    let q = crate::ends::touch(d, h.table, false, spot(e, f));
     if !q.found {
         return stuck(r);
     }
-    let y = paging::byte_at(mem, q.at as usize);
+    let y = paging::present_byte(mem, q.at as usize);
     let s = r.flags;
     if f.kind == 73 {
-        crate::ends::put_byte(e, f.a, y % 256);
+        crate::ends::put_byte(e, f.a, y);
         return onward(next, s, 0);
     }
-    let o = outcome::bytes(7, crate::ends::byte_register(e, f.a), y % 256, s);
+    let o = outcome::bytes(7, crate::ends::byte_register(e, f.a), y, s);
     let g = o.flags;
     onward(next, g, 0)
 }
@@ -221,7 +221,7 @@ pub fn pop(
     if !q.found {
         return stuck(r);
     }
-    let v = paging::dword(mem, q.at as usize);
+    let v = paging::present_dword(mem, q.at as usize);
     put(e, 4, std::num::wrapping_add_u32(top, 4));
     let s = r.flags;
     if f.kind == 70 {

@@ -1,27 +1,17 @@
 use mathlib.Core.Bool.{false≢true}
-use Rattle.hops.proofs.Seeking.{ready-at}
 use borrow.Author.Needs.{needs}
 use native.Mathlib.Omega.{arith}
 use Rattle.strides.proofs.ends.reach.Statement.{statement}
 use Rattle.strides.proofs.ends.reach.Tie as tie
 
-peek-requires : tie.Need-peek-requires
-peek-requires c κs = search needs
-
-enum-known-q : tie.Need-enum-known-q
-enum-known-q c = search needs
-
-enum-told : tie.Need-enum-told
-enum-told c = search needs
+touch-requires : tie.Need-touch-requires
+touch-requires c κs = search needs
 
 returns : tie.Need-returns
 returns c = λ h. absurd (false≢true h)
 
 returns-2 : tie.Need-returns-2
-returns-2 c = λ h. absurd (false≢true h)
-
-returns-3 : tie.Need-returns-3
-returns-3 c = λ _. (omega (arith, (c .if1 .left)), λ m k g. ready-at (c .before .before .q .given .1) ((c .before .before .before .before .peek .ensures) m k g))
+returns-2 c = λ h. (omega (arith, (c .if1 .left)), (c .before .touch .ensures) h)
 
 pub reach-spec : {M : Type 1} → statement M
-reach-spec = tie.close (tie.spec peek-requires enum-known-q enum-told returns returns-2 returns-3)
+reach-spec = tie.close (tie.spec touch-requires returns returns-2)

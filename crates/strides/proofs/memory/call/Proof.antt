@@ -1,7 +1,7 @@
 use Prim.Native.Nat.{_<_}
 use mathlib.Core.Path.{refl}
 use borrow.Author.Tests.{not-false}
-use Rattle.strides.proofs.Reaching.{called-on, called-off}
+use Rattle.strides.proofs.Reaching.{dword-there, called-on, called-off}
 use Rattle.strides.proofs.Standing.{stays}
 use borrow.Author.Needs.{needs}
 use native.Mathlib.Omega.{arith}
@@ -30,7 +30,7 @@ put-requires : tie.Need-put-requires
 put-requires c κs = search needs
 
 store-requires : tie.Need-store-requires
-store-requires c κs = search needs
+store-requires c κs = dword-there (c .before .before .before .before .before .before .before .before .before .before .before .before .pre .0) ((c .before .before .before .before .before .reach .ensures) (not-false _ (c .before .before .before .if1 .left)))
 
 wrapping-add-u32-requires-2 : tie.Need-wrapping-add-u32-requires-2
 wrapping-add-u32-requires-2 c κs = search needs

@@ -1,6 +1,6 @@
 use lib.ListN.{getD}
 use Prim.Native.Nat.{ℕ, _<_}
-use Rattle.strides.proofs.Reaching.{kept}
+use Rattle.strides.proofs.Reaching.{dword-there, kept}
 use Rattle.strides.proofs.Standing.{stays}
 use borrow.Author.Needs.{needs}
 use borrow.Author.Tests.{not-false}
@@ -27,7 +27,7 @@ register-requires : tie.Need-register-requires
 register-requires c κs = search needs
 
 store-requires : tie.Need-store-requires
-store-requires c κs = search needs
+store-requires c κs = dword-there (c .before .before .before .before .before .before .before .before .pre .0) ((c .before .before .before .before .reach .ensures) (not-false _ (c .before .before .if1 .left)))
 
 onward-requires : tie.Need-onward-requires
 onward-requires c κs = search needs

@@ -1,5 +1,5 @@
 use Prim.Native.Nat.{_<_}
-use Rattle.strides.proofs.Reaching.{loaded}
+use Rattle.strides.proofs.Reaching.{dword-there, loaded}
 use Rattle.strides.proofs.Standing.{stays}
 use borrow.Author.Needs.{needs}
 use borrow.Author.Tests.{not-false}
@@ -21,11 +21,11 @@ stuck-requires c κs = search needs
 returns : tie.Need-returns
 returns c = stays _ _ (c .before .before .before .before .before .before .before .before .before .args .c) (c .before .before .before .before .before .before .before .before .before .args .r) (c .before .before .before .before .before .before .before .before .before .args .h) _ (c .before .before .before .before .before .before .before .before .before .args .f) (c .before .before .before .before .before .before .before .before .before .pre .0) (c .stuck .ensures)
 
-cast-dword : tie.Need-cast-dword
-cast-dword c = search needs
+cast-present-dword : tie.Need-cast-present-dword
+cast-present-dword c = search needs
 
-dword-requires : tie.Need-dword-requires
-dword-requires c κs = search needs
+present-dword-requires : tie.Need-present-dword-requires
+present-dword-requires c κs = dword-there (c .before .before .before .before .before .before .before .before .before .before .pre .0) ((c .before .before .before .before .reach .ensures) (not-false _ (c .before .before .if1 .left))) .0
 
 put-requires : tie.Need-put-requires
 put-requires c κs = search needs
@@ -34,7 +34,7 @@ onward-requires : tie.Need-onward-requires
 onward-requires c κs = search needs
 
 returns-2 : tie.Need-returns-2
-returns-2 c = let few : (c .before .before .before .dword .result) < 4294967296 = search needs in rw (c .onward .ensures) (loaded _ _ (c .before .before .before .before .before .before .before .before .before .before .before .before .before .before .args .c) (c .before .before .before .before .before .before .before .before .before .before .before .before .before .before .args .r) (c .before .before .before .before .before .before .before .before .before .before .before .before .before .before .args .h) _ (c .before .before .before .before .before .before .before .before .before .before .before .before .before .before .args .f) (c .before .before .before .before .before .before .before .before .before .before .before .before .before .before .pre .0) (c .before .before .before .before .before .before .before .before .before .before .before .before .before .before .pre .1 .0) (c .before .before .before .before .before .before .before .before .before .before .before .eight .ensures .1) (c .before .before .before .before .before .before .before .before .before .spot .ensures) ((c .before .before .before .before .before .before .before .before .reach .ensures) (not-false _ (c .before .before .before .before .before .before .if1 .left))) (c .before .before .before .before .before .before .before .before .before .before .before .before .before .before .pre .1 .1 .1) (c .before .before .before .before .before .before .before .before .before .before .before .before .before .before .pre .1 .1 .0) (c .before .before .before .dword .ensures) few (c .before .before .put .ensures))
+returns-2 c = let few : (c .before .before .before .present-dword .result) < 4294967296 = search needs in rw (c .onward .ensures) (loaded _ _ (c .before .before .before .before .before .before .before .before .before .before .before .before .before .before .args .c) (c .before .before .before .before .before .before .before .before .before .before .before .before .before .before .args .r) (c .before .before .before .before .before .before .before .before .before .before .before .before .before .before .args .h) _ (c .before .before .before .before .before .before .before .before .before .before .before .before .before .before .args .f) (c .before .before .before .before .before .before .before .before .before .before .before .before .before .before .pre .0) (c .before .before .before .before .before .before .before .before .before .before .before .before .before .before .pre .1 .0) (c .before .before .before .before .before .before .before .before .before .before .before .eight .ensures .1) (c .before .before .before .before .before .before .before .before .before .spot .ensures) ((c .before .before .before .before .before .before .before .before .reach .ensures) (not-false _ (c .before .before .before .before .before .before .if1 .left))) (c .before .before .before .before .before .before .before .before .before .before .before .before .before .before .pre .1 .1 .1) (c .before .before .before .before .before .before .before .before .before .before .before .before .before .before .pre .1 .1 .0) (c .before .before .before .present-dword .ensures) few (c .before .before .put .ensures))
 
 pub load-spec : {M : Type 1} → statement M
 load-spec =
@@ -45,8 +45,8 @@ load-spec =
     reach-requires
     stuck-requires
     returns
-    cast-dword
-    dword-requires
+    cast-present-dword
+    present-dword-requires
     put-requires
     onward-requires
     returns-2)

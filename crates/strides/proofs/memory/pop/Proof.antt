@@ -1,5 +1,5 @@
 use Prim.Native.Nat.{_<_}
-use Rattle.strides.proofs.Reaching.{popped-to, returned}
+use Rattle.strides.proofs.Reaching.{dword-there, popped-to, returned}
 use Rattle.strides.proofs.Standing.{stays}
 use borrow.Author.Needs.{needs}
 use borrow.Author.Tests.{not-false}
@@ -21,11 +21,11 @@ stuck-requires c κs = search needs
 returns : tie.Need-returns
 returns c = stays _ _ (c .before .before .before .before .before .before .before .before .before .args .c) (c .before .before .before .before .before .before .before .before .before .args .r) (c .before .before .before .before .before .before .before .before .before .args .h) _ (c .before .before .before .before .before .before .before .before .before .args .f) (c .before .before .before .before .before .before .before .before .before .pre .0) (c .stuck .ensures)
 
-cast-dword : tie.Need-cast-dword
-cast-dword c = search needs
+cast-present-dword : tie.Need-cast-present-dword
+cast-present-dword c = search needs
 
-dword-requires : tie.Need-dword-requires
-dword-requires c κs = search needs
+present-dword-requires : tie.Need-present-dword-requires
+present-dword-requires c κs = dword-there (c .before .before .before .before .before .before .before .before .before .pre .0) ((c .before .before .before .reach .ensures) (not-false _ (c .before .if1 .left))) .0
 
 wrapping-add-u32-requires : tie.Need-wrapping-add-u32-requires
 wrapping-add-u32-requires c κs = search needs
@@ -37,7 +37,7 @@ onward-requires : tie.Need-onward-requires
 onward-requires c κs = search needs
 
 returns-2 : tie.Need-returns-2
-returns-2 c = let few : (c .before .before .before .before .before .before .before .dword .result) < 4294967296 = search needs in rw (c .onward .ensures) (returned _ _ (c .before .before .before .before .before .before .before .before .before .before .before .before .before .before .before .before .before .args .c) (c .before .before .before .before .before .before .before .before .before .before .before .before .before .before .before .before .before .args .r) (c .before .before .before .before .before .before .before .before .before .before .before .before .before .before .before .before .before .args .h) _ (c .before .before .before .before .before .before .before .before .before .before .before .before .before .before .before .before .before .args .f) (c .before .before .before .before .before .before .before .before .before .before .before .before .before .before .before .before .before .pre .0) (c .before .before .before .before .before .before .before .before .before .before .before .before .before .before .before .before .before .pre .1 .0) (c .before .before .before .before .before .before .before .before .before .before .before .before .before .before .eight .ensures .1) (c .before .before .before .before .before .before .before .before .before .before .before .before .register .ensures) ((c .before .before .before .before .before .before .before .before .before .before .before .reach .ensures) (not-false _ (c .before .before .before .before .before .before .before .before .before .if1 .left))) (c .before .before .before .before .before .before .before .dword .ensures) few (c .before .before .before .before .before .wrapping-add-u32 .ensures) (c .before .before .before .before .put .ensures) (c .before .if2 .taken))
+returns-2 c = let few : (c .before .before .before .before .before .before .before .present-dword .result) < 4294967296 = search needs in rw (c .onward .ensures) (returned _ _ (c .before .before .before .before .before .before .before .before .before .before .before .before .before .before .before .before .before .args .c) (c .before .before .before .before .before .before .before .before .before .before .before .before .before .before .before .before .before .args .r) (c .before .before .before .before .before .before .before .before .before .before .before .before .before .before .before .before .before .args .h) _ (c .before .before .before .before .before .before .before .before .before .before .before .before .before .before .before .before .before .args .f) (c .before .before .before .before .before .before .before .before .before .before .before .before .before .before .before .before .before .pre .0) (c .before .before .before .before .before .before .before .before .before .before .before .before .before .before .before .before .before .pre .1 .0) (c .before .before .before .before .before .before .before .before .before .before .before .before .before .before .eight .ensures .1) (c .before .before .before .before .before .before .before .before .before .before .before .before .register .ensures) ((c .before .before .before .before .before .before .before .before .before .before .before .reach .ensures) (not-false _ (c .before .before .before .before .before .before .before .before .before .if1 .left))) (c .before .before .before .before .before .before .before .present-dword .ensures) few (c .before .before .before .before .before .wrapping-add-u32 .ensures) (c .before .before .before .before .put .ensures) (c .before .if2 .taken))
 
 put-requires-2 : tie.Need-put-requires-2
 put-requires-2 c κs = search needs
@@ -46,7 +46,7 @@ onward-requires-2 : tie.Need-onward-requires-2
 onward-requires-2 c κs = search needs
 
 returns-3 : tie.Need-returns-3
-returns-3 c = let few : (c .before .before .before .before .before .before .before .before .before .dword .result) < 4294967296 = search needs in rw (c .onward2 .ensures) (popped-to _ _ (c .before .before .before .before .before .before .before .before .before .before .before .before .before .before .before .before .before .before .before .args .c) (c .before .before .before .before .before .before .before .before .before .before .before .before .before .before .before .before .before .before .before .args .r) (c .before .before .before .before .before .before .before .before .before .before .before .before .before .before .before .before .before .before .before .args .h) _ (c .before .before .before .before .before .before .before .before .before .before .before .before .before .before .before .before .before .before .before .args .f) (c .before .before .before .before .before .before .before .before .before .before .before .before .before .before .before .before .before .before .before .pre .0) (c .before .before .before .before .before .before .before .before .before .before .before .before .before .before .before .before .before .before .before .pre .1 .0) (c .before .before .before .before .before .before .before .before .before .before .before .before .before .before .before .before .eight .ensures .1) (c .before .before .before .before .before .before .before .before .before .before .before .before .before .before .register .ensures) ((c .before .before .before .before .before .before .before .before .before .before .before .before .before .reach .ensures) (not-false _ (c .before .before .before .before .before .before .before .before .before .before .before .if1 .left))) (c .before .before .before .before .before .before .before .before .before .dword .ensures) few (c .before .before .before .before .before .before .before .wrapping-add-u32 .ensures) (c .before .before .before .before .before .before .put .ensures) (c .before .before .before .before .before .before .before .before .before .before .before .before .before .before .before .before .before .before .before .pre .1 .1 .0) (c .before .before .before .if2 .left) (c .before .before .before .before .before .before .before .before .before .before .before .before .before .before .before .before .before .before .before .pre .1 .1 .1) (c .before .put2 .ensures))
+returns-3 c = let few : (c .before .before .before .before .before .before .before .before .before .present-dword .result) < 4294967296 = search needs in rw (c .onward2 .ensures) (popped-to _ _ (c .before .before .before .before .before .before .before .before .before .before .before .before .before .before .before .before .before .before .before .args .c) (c .before .before .before .before .before .before .before .before .before .before .before .before .before .before .before .before .before .before .before .args .r) (c .before .before .before .before .before .before .before .before .before .before .before .before .before .before .before .before .before .before .before .args .h) _ (c .before .before .before .before .before .before .before .before .before .before .before .before .before .before .before .before .before .before .before .args .f) (c .before .before .before .before .before .before .before .before .before .before .before .before .before .before .before .before .before .before .before .pre .0) (c .before .before .before .before .before .before .before .before .before .before .before .before .before .before .before .before .before .before .before .pre .1 .0) (c .before .before .before .before .before .before .before .before .before .before .before .before .before .before .before .before .eight .ensures .1) (c .before .before .before .before .before .before .before .before .before .before .before .before .before .before .register .ensures) ((c .before .before .before .before .before .before .before .before .before .before .before .before .before .reach .ensures) (not-false _ (c .before .before .before .before .before .before .before .before .before .before .before .if1 .left))) (c .before .before .before .before .before .before .before .before .before .present-dword .ensures) few (c .before .before .before .before .before .before .before .wrapping-add-u32 .ensures) (c .before .before .before .before .before .before .put .ensures) (c .before .before .before .before .before .before .before .before .before .before .before .before .before .before .before .before .before .before .before .pre .1 .1 .0) (c .before .before .before .if2 .left) (c .before .before .before .before .before .before .before .before .before .before .before .before .before .before .before .before .before .before .before .pre .1 .1 .1) (c .before .put2 .ensures))
 
 pub pop-spec : {M : Type 1} → statement M
 pop-spec =
@@ -57,8 +57,8 @@ pop-spec =
     reach-requires
     stuck-requires
     returns
-    cast-dword
-    dword-requires
+    cast-present-dword
+    present-dword-requires
     wrapping-add-u32-requires
     put-requires
     onward-requires

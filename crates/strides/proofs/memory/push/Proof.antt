@@ -1,6 +1,6 @@
 use Prim.Native.Nat.{_<_}
 use borrow.Author.Tests.{not-false}
-use Rattle.strides.proofs.Reaching.{pushed-to}
+use Rattle.strides.proofs.Reaching.{dword-there, pushed-to}
 use Rattle.strides.proofs.Standing.{stays}
 use borrow.Author.Needs.{needs}
 use native.Mathlib.Omega.{arith}
@@ -29,7 +29,7 @@ put-requires : tie.Need-put-requires
 put-requires c κs = search needs
 
 store-requires : tie.Need-store-requires
-store-requires c κs = search needs
+store-requires c κs = dword-there (c .before .before .before .before .before .before .before .before .before .before .before .before .pre .0) ((c .before .before .before .before .before .reach .ensures) (not-false _ (c .before .before .before .if1 .left)))
 
 onward-requires : tie.Need-onward-requires
 onward-requires c κs = search needs
