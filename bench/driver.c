@@ -16,6 +16,7 @@ static const struct engine *const ENGINES[] = {
 #endif
 #ifdef WITH_UNICORN
     &unicorn,
+    &unicorn_counted,
 #endif
     &bochs,
 };

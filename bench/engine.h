@@ -54,7 +54,7 @@ int bochs_works(const struct job *);    /* does it start here, and run the job f
 extern const struct engine x86emu;
 #endif
 #ifdef WITH_UNICORN
-extern const struct engine unicorn;
+extern const struct engine unicorn, unicorn_counted;
 #endif
 
 _Noreturn void give_up(const char *format, ...);

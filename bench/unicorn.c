@@ -1,10 +1,11 @@
-/* Unicorn as an engine: flat, no hooks, ended by the address to stop at. */
+/* Unicorn as an engine: flat, no hooks, ended by the address to stop at; and the same with a number of instructions to stop after, which it counts
+ * as our run counts its budget. */
 #include <unicorn/unicorn.h>
 #include "engine.h"
 
 struct emulator {
     uc_engine *uc;
-    uint32_t start, end;
+    const struct job *job;
 };
 
 static const int NAMES[9] = {UC_X86_REG_EAX, UC_X86_REG_ECX, UC_X86_REG_EDX, UC_X86_REG_EBX,   UC_X86_REG_ESP,
@@ -24,14 +25,18 @@ static void *make(struct job *job) {
         sure(uc_mem_map_ptr(e->uc, r->start, r->length, r->code ? UC_PROT_READ | UC_PROT_EXEC : UC_PROT_READ | UC_PROT_WRITE, job->linear + r->start));
     sure(uc_reg_write(e->uc, UC_X86_REG_ESP, &job->esp));
     sure(uc_reg_write(e->uc, UC_X86_REG_EBP, &job->ebp));
-    e->start = job->eip;
-    e->end = job->end;
+    e->job = job;
     return e;
 }
 
 static void run(void *emulator) {
     struct emulator *e = emulator;
-    sure(uc_emu_start(e->uc, e->start, e->end, 0, 0));
+    sure(uc_emu_start(e->uc, e->job->eip, e->job->end, 0, 0));
+}
+
+static void run_counted(void *emulator) {
+    struct emulator *e = emulator;
+    sure(uc_emu_start(e->uc, e->job->eip, e->job->end, 0, e->job->instructions));
 }
 
 static struct registers registers(void *emulator) {
@@ -48,3 +53,4 @@ static void drop(void *emulator) {
 }
 
 const struct engine unicorn = {.name = "Unicorn", .pages = 0, .make = make, .run = run, .registers = registers, .drop = drop};
+const struct engine unicorn_counted = {.name = "Unicorn, counted", .pages = 0, .make = make, .run = run_counted, .registers = registers, .drop = drop};
