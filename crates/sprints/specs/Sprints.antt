@@ -18,9 +18,9 @@ use Rattle.sprints.specs.declared.Traced.{Traced}
 pub record Before (m : Mem) (c : Control) (h : Kept) (d g : List ℕ) (r : Rest) (s : ℕ) : Type 0 where
   pub stands : Stands m c h d r
   pub even : h .base % 4096 ≡ 0
-  pub wide : r .eip % 4096 ≤ 4064
-  pub within : s + 16 ≤ 4096
-  pub whole : s % 16 ≡ 0
+  pub wide : r .eip % 4096 ≤ 4032
+  pub within : s + 32 ≤ 4096
+  pub whole : s % 32 ≡ 0
   pub known : Known g
   pub keyed : Keyed m (h .base + r .eip % 4096) g s
 

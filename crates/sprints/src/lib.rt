@@ -40,11 +40,11 @@ fn trace(
     requires { ⌜ Before (now mem) c h (now d) (now g) from s ⌝ }
     ensures { λ w. ⌜ (w .count ≤ limit) × (TracedOk (now (mem .entry)) (now (e .entry)) c from h (now (d .entry)) (now (mem .exit)) (now (e .exit)) w) ⌝ }
 {
-    let size = least(g[s + 4] as u32, limit);
+    let size = least((g[s + 8] % 32) as u32, limit);
     let mut j: u32 = 0;
     let mut r = from;
     while j < size {
-        let f = blocks::unpack(g[s + 5 + j as usize]);
+        let f = blocks::unpack(g[s + 9 + j as usize]);
         let w = strides::carry_out(mem, e, d, c, r, h, f);
         let next = w.rest;
         r = next;
@@ -96,7 +96,7 @@ pub fn sprint(
         };
     }
     while n < limit {
-        if !((r.eip / 4096 == h.page) & (r.eip % 4096 <= 4064)) {
+        if !((r.eip / 4096 == h.page) & (r.eip % 4096 <= 4032)) {
             return Traced {
                 count: n,
                 status: 0,
