@@ -1,4 +1,4 @@
 mod Numbers
-mod Keys
-mod Tables
+pub mod Keys
+pub mod Tables
 mod Building

@@ -2,14 +2,12 @@
 use Prim.Native.Nat.{ℕ, zero, suc, _+_}
 use mathlib.Core.Path.{_≡_, refl}
 use mathlib.Core.List.{List}
-use native.Mathlib.Omega.{arith}
 use lib.ListN.{getD, replicate}
-use Rattle.blocks.specs.Blocks.{sizeIn, Known}
+use Rattle.blocks.specs.Blocks.{Known}
+use Rattle.blocks.proofs.Tables.{empty-ok}
 
 none-known : (g : List ℕ) → ((k : ℕ) → getD g k 0 ≡ 0) → Known g
-none-known g z s _ _ =
-    let n : sizeIn g s ≡ 0 = z (s + 4) in
-    record { few = omega (arith, n); room = λ j l. absurd (omega (arith, n, l)); forms = λ m i _ j l. absurd (omega (arith, n, l)) }
+none-known g z s _ _ = empty-ok g s (z (s + 8))
 
 zeros : (n k : ℕ) → getD {0} {A = ℕ} (replicate {0} {A = ℕ} n 0) k 0 ≡ 0
 zeros zero k = refl

@@ -57,16 +57,16 @@ module _ (m₀ : Mem) (e₀ : List ℕ) (c : Control) (r₀ : Rest) (h : Kept) (
     paused = record { rushed = z .rushed; size = z .same; kept = λ _. z .pages }
 
     -- the block's bytes are there
-    pub room : (eqb (r .eip / 4096) (h .page) && leb (r .eip % 4096) 4064) ≡ true → r .eip < 4294967296 → (i : ℕ) → i ≡ h .base + r .eip % 4096 → i + 32 ≤ length m
+    pub room : (eqb (r .eip / 4096) (h .page) && leb (r .eip % 4096) 4032) ≡ true → r .eip < 4294967296 → (i : ℕ) → i ≡ h .base + r .eip % 4096 → i + 64 ≤ length m
     room t small i ei =
-        let q = split-test (r .eip / 4096) (h .page) (r .eip % 4096) 4064 t in
+        let q = split-test (r .eip / 4096) (h .page) (r .eip % 4096) 4032 t in
         let w : h .base + 4096 < length m + 1 = z .pages .0 .whole (omega (arith, q .0, small)) in
         omega (arith, w, q .1)
 
-    pub ready : length m₀ % 4096 ≡ 0 → h .base % 4096 ≡ 0 → (eqb (r .eip / 4096) (h .page) && leb (r .eip % 4096) 4064) ≡ true → r .eip < 4294967296
-        → (g : List ℕ) (s i : ℕ) → i ≡ h .base + r .eip % 4096 → s + 16 ≤ 4096 → s % 16 ≡ 0 → Known g → Keyed m i g s → Before m c h d g r s
+    pub ready : length m₀ % 4096 ≡ 0 → h .base % 4096 ≡ 0 → (eqb (r .eip / 4096) (h .page) && leb (r .eip % 4096) 4032) ≡ true → r .eip < 4294967296
+        → (g : List ℕ) (s i : ℕ) → i ≡ h .base + r .eip % 4096 → s + 32 ≤ 4096 → s % 32 ≡ 0 → Known g → Keyed m i g s → Before m c h d g r s
     ready size even t small g s i ei within whole known keyed =
-        let q = split-test (r .eip / 4096) (h .page) (r .eip % 4096) 4064 t in
+        let q = split-test (r .eip / 4096) (h .page) (r .eip % 4096) 4032 t in
         record {
           stands = record { size = ap (λ (x : ℕ). x % 4096) (z .same) ∙ size; pages = z .pages; page = q .0; room = omega (arith, q .1); small = small };
           even = even;
