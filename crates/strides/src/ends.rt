@@ -17,7 +17,7 @@ use keptpages::Kept;
 use keptpages::Settled;
 use machine::Control;
 
-// A dword of memory: is its page at hand, and where it lies.
+// A place in memory: is its page at hand, and where it lies.
 pub struct Spot {
     pub found: bool,
     pub at: u32,
