@@ -23,13 +23,12 @@ pub record Built (m : Mem) (i s : ℕ) (g : List ℕ) (j off : ℕ) : Type 0 whe
   -- no form asks for bytes beyond the first thirty-two while the next does not
   pub short : off ≤ 16 → getD g (s + 8) 0 < 32
   pub bytes : offset g s j ≡ off
-  pub few : j ≤ 23
   pub long : length g ≡ 4096
 
 pub built-none : (m : Mem) (i s : ℕ) (g : List ℕ) → length g ≡ 4096 → (Known g) × ((Written m i g s 8) × (getD g (s + 8) 0 ≡ 0)) → Built m i s g 0 0
 unfolding offset
 built-none m i s g n (k, (key, z)) =
-    record { known = k; written = key; size = rw z; short = λ _. omega (arith, z); bytes = refl; few = omega arith; long = n }
+    record { known = k; written = key; size = rw z; short = λ _. omega (arith, z); bytes = refl; long = n }
 
 -- the count that is stored
 module _ (g : List ℕ) (s j off c : ℕ) (l : j < 23) (o : off ≤ 48) (short : off ≤ 16 → getD g (s + 8) 0 < 32) (bytes : offset g s j ≡ off)
@@ -63,7 +62,6 @@ built-on m i s g j off x c f b h z l o r e ec =
       size = rw n (t .0 .size);
       short = λ q. rw n (t .1 (omega arith));
       bytes = grown-offset g s j x c (b .long) h l f e ∙ ap (λ (n : ℕ). n + f .length) (b .bytes);
-      few = omega arith;
       long = grown-long g s j x c (b .long) h l;
     }
 

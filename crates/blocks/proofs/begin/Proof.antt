@@ -1,12 +1,12 @@
 use Rattle.blocks.proofs.Tables.{Begun, begun-none, begun-on}
-use Prim.Native.Nat.{_≤_, _-_}
+use Prim.Native.Nat.{_-_}
 use borrow.Author.Needs.{needs}
 use native.Mathlib.Omega.{arith}
 use Rattle.blocks.proofs.begin.Statement.{statement}
 use Rattle.blocks.proofs.begin.Tie as tie
 
 abbrev Inv-loop : tie.InvT-loop
-Inv-loop mem g₀ s i k₀ g k = (k ≤ 8) × (Begun mem i s g k)
+Inv-loop mem g₀ s i k₀ g k = Begun mem i s g k
 
 abbrev μ-loop : tie.MeasureT-loop
 μ-loop mem g₀ s i k₀ g k = 8 - k
@@ -21,7 +21,7 @@ element-write-g : tie.Need-element-write-g Inv-loop μ-loop
 element-write-g c = search needs
 
 loop-holds : tie.Need-loop-holds Inv-loop μ-loop
-loop-holds c = (omega arith, begun-none _ _ _ _ (c .before .before .before .pre .1 .0) (c .before .before .before .pre .1 .1 .0) (search needs) (c .before .before .before .pre .1 .1 .1))
+loop-holds c = begun-none _ _ _ _ (c .before .before .before .pre .1 .0) (c .before .before .before .pre .1 .1 .0) (search needs) (c .before .before .before .pre .1 .1 .1)
 
 mul-word : tie.Need-mul-word Inv-loop μ-loop
 mul-word c = search needs
@@ -48,10 +48,10 @@ loop-less : tie.Need-loop-less Inv-loop μ-loop
 loop-less c = search needs
 
 loop-again : tie.Need-loop-again Inv-loop μ-loop
-loop-again c = (omega arith, begun-on _ _ _ _ (c .before .before .before .before .before .before .pre .1 .0) (c .before .before .before .before .before .before .pre .1 .1 .0) _ _ (c .before .loop-test .taken) (c .before .before .loop .inv .1) (c .word .ensures))
+loop-again c = begun-on _ _ _ _ (c .before .before .before .before .before .before .pre .1 .0) (c .before .before .before .before .before .before .pre .1 .1 .0) _ _ (c .before .loop-test .taken) (c .before .before .loop .inv) (c .word .ensures)
 
 returns : tie.Need-returns Inv-loop μ-loop
-returns c = let b = c .before .loop .inv .1 in (b .known, ((λ n l. b .written n (omega arith)), b .none))
+returns c = let b = c .before .loop .inv in (b .known, ((λ n l. b .written n (omega arith)), b .none))
 
 pub begin-spec : {M : Type 1} → statement M
 begin-spec =
