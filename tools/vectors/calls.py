@@ -44,6 +44,8 @@ RUNS = [
     ("two turns: an instruction nine bytes on is fetched as the turn before stored it", run("41" * 8 + "4289034e75f2f4", 99, regs=[0x4E038945, 0, 0, 0x3008, 0, 0, 2, 0]),
      ran(24, HALT, 0, 0, 0x300F, {1: 16, 2: 1, 5: 1, 6: 0}, 0x300E, 0x46, [(0x3008, 0x45)])),
     ("INC keeps CF too where no block can begin, in a page's last bytes", run("", 1, eip=0x3FE8, eflags=3, memory=[(0x3FE8, b"\x41")]), ran(1, SPENT, regs={1: 1}, eip=0x3FE9, eflags=3)),
+    ("two turns: an instruction forty-eight bytes on is fetched as the turn before stored it", run("81c101000000" * 8 + "4289034e75caf4", 99, regs=[0x4E038945, 0, 0, 0x3030, 0, 0, 2, 0]),
+     ran(24, HALT, 0, 0, 0x3037, {1: 16, 2: 1, 5: 1, 6: 0}, 0x3036, 0x46, [(0x3030, 0x45)])),
     ("two turns: a dword that runs over a page's end is loaded from both", run("8b03" "4975fbf4", 99, regs=[0, 2, 0, 0x4FFE, 0, 0, 0, 0], memory=[(0x4FFE, b"\x01\x02\x03\x04")]),
      ran(6, HALT, 0, 0, 0x3006, {0: 0x04030201, 1: 0}, 0x3005, 0x46)),
     ("a step walks the entries as the step before it stored them", case("c6051550400040a110504000", maps=SELF, memory=[(0x4010, b"\x09")], call=RUN, budget=2),

@@ -113,6 +113,7 @@ RULES = [
     (I, "block: a displacement byte has no sign", "            upto: 3,\n            number: fetch::extend(shortcut::bytes::byte(mem, i + 2)),", "            upto: 3,\n            number: shortcut::bytes::byte(mem, i + 2),"),
     (I, "block: a form of MOV to memory is LEA's", "        kind: 64,", "        kind: 71,"),
     (K, "block: the bytes beyond the first eight are not compared", "    if g[s + 1] != word(mem, i + 8) {\n        return false;\n    }\n", "    if g[s] == word(mem, i) {\n        return true;\n    }\n"),
+    (K, "block: the bytes beyond the first thirty-two are not compared", "    if g[s + 8] < 32 {", "    if g[s + 8] < 64 {"),
     (L, "block: ADC by a number is ADD", "18 => plain::by_number(e, r, f, next, 2),", "18 => plain::by_number(e, r, f, next, 0),"),
     (L, "block: SBB is SUB", "3 => plain::by_register(e, r, f, next, 3),", "3 => plain::by_register(e, r, f, next, 5),"),
     (C, "block: CMP writes its result", "    if (op == 7) | (op == 8) {", "    if op == 8 {"),
@@ -125,7 +126,7 @@ RULES = [
     (Z, "block: a dword over a page's end is taken as one page's", "    if 4092 < l % 4096 {", "    if 4095 < l % 4096 {"),
     (J, "block: POP and RET leave ESP too high", "std::num::wrapping_add_u32(top, 4)", "std::num::wrapping_add_u32(top, 8)"),
     (J, "block: CALL stores where it goes", "let status = crate::ends::store(mem, c, h, q.at, next);", "let status = crate::ends::store(mem, c, h, q.at, std::num::wrapping_add_u32(next, f.number));"),
-    (Y, "block: the budget is not kept within a block", "    let size = least(g[s + 4] as u32, limit);", "    let size = least(g[s + 4] as u32, 11);"),
+    (Y, "block: the budget is not kept within a block", "    let size = least((g[s + 8] % 32) as u32, limit);", "    let size = least((g[s + 8] % 32) as u32, 23);"),
 ]
 
 
