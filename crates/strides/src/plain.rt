@@ -12,6 +12,7 @@ use crate::ends::eight;
 use crate::ends::onward;
 use crate::ends::put;
 use crate::ends::register;
+use crate::ends::wrote;
 use alu::brief::Short;
 use forms::Form;
 use hops::Rest;
@@ -22,12 +23,11 @@ fn settle(e: &mut [u32; 8], n: u32, op: u32, next: u32, o: Short) -> Ended
     requires { ⌜ n < 8 ⌝ }
     ensures { λ w. ⌜ (now (e .exit) ≡ cond (writes op) (set (now (e .entry)) n (o .value)) (now (e .entry))) × (w ≡ record { status = 0; rest = record { eip = next; flags = o .flags } }) ⌝ }
 {
-    let g = o.flags;
     if (op == 7) | (op == 8) {
+        let g = o.flags;
         return onward(next, g, 0);
     }
-    put(e, n, o.value);
-    onward(next, g, 0)
+    wrote(e, n, next, o)
 }
 
 // The operation op of a register by a register.

@@ -1,8 +1,9 @@
-use Rattle.strides.proofs.Standing.{stays}
-use Rattle.strides.proofs.Reaching.{pushes, pushes-number}
 use Rattle.alu.specs.Brief.{statusIn}
 use borrow.Author.Needs.{needs}
+use native.Mathlib.Omega.{arith}
 use mathlib.Core.Path.{refl}
+use Rattle.strides.proofs.Standing.{stays}
+use Rattle.strides.proofs.Reaching.{pushes, pushes-number}
 use Rattle.strides.proofs.carry_out.Statement.{statement}
 use Rattle.strides.proofs.carry_out.Tie as tie
 
@@ -10,79 +11,79 @@ wrapping-add-u32-requires : tie.Need-wrapping-add-u32-requires
 wrapping-add-u32-requires c κs = search needs
 
 by-register-requires : tie.Need-by-register-requires
-by-register-requires c κs = search needs
+by-register-requires c κs = ((c .before .match .keys1), (omega arith, ((c .before .before .before .before .pre .1 .1), (c .before .before .wrapping-add-u32 .ensures))))
 
 by-register-requires-2 : tie.Need-by-register-requires-2
-by-register-requires-2 c κs = search needs
+by-register-requires-2 c κs = ((c .before .match .keys2), (omega arith, ((c .before .before .before .before .pre .1 .1), (c .before .before .wrapping-add-u32 .ensures))))
 
 by-register-requires-3 : tie.Need-by-register-requires-3
-by-register-requires-3 c κs = search needs
+by-register-requires-3 c κs = ((c .before .match .keys3), (omega arith, ((c .before .before .before .before .pre .1 .1), (c .before .before .wrapping-add-u32 .ensures))))
 
 by-register-requires-4 : tie.Need-by-register-requires-4
-by-register-requires-4 c κs = search needs
+by-register-requires-4 c κs = ((c .before .match .keys4), (omega arith, ((c .before .before .before .before .pre .1 .1), (c .before .before .wrapping-add-u32 .ensures))))
 
 by-register-requires-5 : tie.Need-by-register-requires-5
-by-register-requires-5 c κs = search needs
+by-register-requires-5 c κs = ((c .before .match .keys5), (omega arith, ((c .before .before .before .before .pre .1 .1), (c .before .before .wrapping-add-u32 .ensures))))
 
 by-register-requires-6 : tie.Need-by-register-requires-6
-by-register-requires-6 c κs = search needs
+by-register-requires-6 c κs = ((c .before .match .keys6), (omega arith, ((c .before .before .before .before .pre .1 .1), (c .before .before .wrapping-add-u32 .ensures))))
 
 by-register-requires-7 : tie.Need-by-register-requires-7
-by-register-requires-7 c κs = search needs
+by-register-requires-7 c κs = ((c .before .match .keys7), (omega arith, ((c .before .before .before .before .pre .1 .1), (c .before .before .wrapping-add-u32 .ensures))))
 
 by-register-requires-8 : tie.Need-by-register-requires-8
-by-register-requires-8 c κs = search needs
+by-register-requires-8 c κs = ((c .before .match .keys8), (omega arith, ((c .before .before .before .before .pre .1 .1), (c .before .before .wrapping-add-u32 .ensures))))
 
 by-register-requires-9 : tie.Need-by-register-requires-9
-by-register-requires-9 c κs = search needs
+by-register-requires-9 c κs = ((c .before .match .keys9), (omega arith, ((c .before .before .before .before .pre .1 .1), (c .before .before .wrapping-add-u32 .ensures))))
 
 by-register-requires-10 : tie.Need-by-register-requires-10
-by-register-requires-10 c κs = search needs
+by-register-requires-10 c κs = ((c .before .match .keys10), (omega arith, ((c .before .before .before .before .pre .1 .1), (c .before .before .wrapping-add-u32 .ensures))))
 
 by-number-requires : tie.Need-by-number-requires
-by-number-requires c κs = search needs
+by-number-requires c κs = ((c .before .match .keys11), (omega arith, ((c .before .before .before .before .pre .1 .1), (c .before .before .wrapping-add-u32 .ensures))))
 
 by-number-requires-2 : tie.Need-by-number-requires-2
-by-number-requires-2 c κs = search needs
+by-number-requires-2 c κs = ((c .before .match .keys12), (omega arith, ((c .before .before .before .before .pre .1 .1), (c .before .before .wrapping-add-u32 .ensures))))
 
 by-number-requires-3 : tie.Need-by-number-requires-3
-by-number-requires-3 c κs = search needs
+by-number-requires-3 c κs = ((c .before .match .keys13), (omega arith, ((c .before .before .before .before .pre .1 .1), (c .before .before .wrapping-add-u32 .ensures))))
 
 by-number-requires-4 : tie.Need-by-number-requires-4
-by-number-requires-4 c κs = search needs
+by-number-requires-4 c κs = ((c .before .match .keys14), (omega arith, ((c .before .before .before .before .pre .1 .1), (c .before .before .wrapping-add-u32 .ensures))))
 
 by-number-requires-5 : tie.Need-by-number-requires-5
-by-number-requires-5 c κs = search needs
+by-number-requires-5 c κs = ((c .before .match .keys15), (omega arith, ((c .before .before .before .before .pre .1 .1), (c .before .before .wrapping-add-u32 .ensures))))
 
 by-number-requires-6 : tie.Need-by-number-requires-6
-by-number-requires-6 c κs = search needs
+by-number-requires-6 c κs = ((c .before .match .keys16), (omega arith, ((c .before .before .before .before .pre .1 .1), (c .before .before .wrapping-add-u32 .ensures))))
 
 by-number-requires-7 : tie.Need-by-number-requires-7
-by-number-requires-7 c κs = search needs
+by-number-requires-7 c κs = ((c .before .match .keys17), (omega arith, ((c .before .before .before .before .pre .1 .1), (c .before .before .wrapping-add-u32 .ensures))))
 
 by-number-requires-8 : tie.Need-by-number-requires-8
-by-number-requires-8 c κs = search needs
+by-number-requires-8 c κs = ((c .before .match .keys18), (omega arith, ((c .before .before .before .before .pre .1 .1), (c .before .before .wrapping-add-u32 .ensures))))
 
 by-number-requires-9 : tie.Need-by-number-requires-9
-by-number-requires-9 c κs = search needs
+by-number-requires-9 c κs = ((c .before .match .keys19), (omega arith, ((c .before .before .before .before .pre .1 .1), (c .before .before .wrapping-add-u32 .ensures))))
 
 by-number-requires-10 : tie.Need-by-number-requires-10
-by-number-requires-10 c κs = search needs
+by-number-requires-10 c κs = ((c .before .match .keys20), (omega arith, ((c .before .before .before .before .pre .1 .1), (c .before .before .wrapping-add-u32 .ensures))))
 
 by-number-requires-11 : tie.Need-by-number-requires-11
-by-number-requires-11 c κs = search needs
+by-number-requires-11 c κs = ((c .before .match .keys21), (omega arith, ((c .before .before .before .before .pre .1 .1), (c .before .before .wrapping-add-u32 .ensures))))
 
 by-number-requires-12 : tie.Need-by-number-requires-12
-by-number-requires-12 c κs = search needs
+by-number-requires-12 c κs = ((c .before .match .keys22), (omega arith, ((c .before .before .before .before .pre .1 .1), (c .before .before .wrapping-add-u32 .ensures))))
 
 by-number-requires-13 : tie.Need-by-number-requires-13
-by-number-requires-13 c κs = search needs
+by-number-requires-13 c κs = ((c .before .match .keys23), (omega arith, ((c .before .before .before .before .pre .1 .1), (c .before .before .wrapping-add-u32 .ensures))))
 
 by-number-requires-14 : tie.Need-by-number-requires-14
-by-number-requires-14 c κs = search needs
+by-number-requires-14 c κs = ((c .before .match .keys24), (omega arith, ((c .before .before .before .before .pre .1 .1), (c .before .before .wrapping-add-u32 .ensures))))
 
 by-number-requires-15 : tie.Need-by-number-requires-15
-by-number-requires-15 c κs = search needs
+by-number-requires-15 c κs = ((c .before .match .keys25), (omega arith, ((c .before .before .before .before .pre .1 .1), (c .before .before .wrapping-add-u32 .ensures))))
 
 combine-requires : tie.Need-combine-requires
 combine-requires c κs = ((c .before .before .before .before .before .pre .0), ((c .before .before .before .before .before .pre .1), (rw (c .before .before .match .keys26) refl, (c .before .before .before .wrapping-add-u32 .ensures))))
@@ -109,58 +110,58 @@ combine-requires-8 : tie.Need-combine-requires-8
 combine-requires-8 c κs = ((c .before .before .before .before .before .pre .0), ((c .before .before .before .before .before .pre .1), (rw (c .before .before .match .keys33) refl, (c .before .before .before .wrapping-add-u32 .ensures))))
 
 load-requires : tie.Need-load-requires
-load-requires c κs = search needs
+load-requires c κs = ((c .before .before .before .before .before .pre .0), ((c .before .before .before .before .before .pre .1), ((c .before .before .match .keys34), (c .before .before .before .wrapping-add-u32 .ensures))))
 
 jump-if-requires : tie.Need-jump-if-requires
-jump-if-requires c κs = search needs
+jump-if-requires c κs = ((c .before .match .keys35), (omega arith, (c .before .before .wrapping-add-u32 .ensures)))
 
 jump-if-requires-2 : tie.Need-jump-if-requires-2
-jump-if-requires-2 c κs = search needs
+jump-if-requires-2 c κs = ((c .before .match .keys36), (omega arith, (c .before .before .wrapping-add-u32 .ensures)))
 
 jump-if-requires-3 : tie.Need-jump-if-requires-3
-jump-if-requires-3 c κs = search needs
+jump-if-requires-3 c κs = ((c .before .match .keys37), (omega arith, (c .before .before .wrapping-add-u32 .ensures)))
 
 jump-if-requires-4 : tie.Need-jump-if-requires-4
-jump-if-requires-4 c κs = search needs
+jump-if-requires-4 c κs = ((c .before .match .keys38), (omega arith, (c .before .before .wrapping-add-u32 .ensures)))
 
 jump-if-requires-5 : tie.Need-jump-if-requires-5
-jump-if-requires-5 c κs = search needs
+jump-if-requires-5 c κs = ((c .before .match .keys39), (omega arith, (c .before .before .wrapping-add-u32 .ensures)))
 
 jump-if-requires-6 : tie.Need-jump-if-requires-6
-jump-if-requires-6 c κs = search needs
+jump-if-requires-6 c κs = ((c .before .match .keys40), (omega arith, (c .before .before .wrapping-add-u32 .ensures)))
 
 jump-if-requires-7 : tie.Need-jump-if-requires-7
-jump-if-requires-7 c κs = search needs
+jump-if-requires-7 c κs = ((c .before .match .keys41), (omega arith, (c .before .before .wrapping-add-u32 .ensures)))
 
 jump-if-requires-8 : tie.Need-jump-if-requires-8
-jump-if-requires-8 c κs = search needs
+jump-if-requires-8 c κs = ((c .before .match .keys42), (omega arith, (c .before .before .wrapping-add-u32 .ensures)))
 
 jump-if-requires-9 : tie.Need-jump-if-requires-9
-jump-if-requires-9 c κs = search needs
+jump-if-requires-9 c κs = ((c .before .match .keys43), (omega arith, (c .before .before .wrapping-add-u32 .ensures)))
 
 jump-if-requires-10 : tie.Need-jump-if-requires-10
-jump-if-requires-10 c κs = search needs
+jump-if-requires-10 c κs = ((c .before .match .keys44), (omega arith, (c .before .before .wrapping-add-u32 .ensures)))
 
 jump-if-requires-11 : tie.Need-jump-if-requires-11
-jump-if-requires-11 c κs = search needs
+jump-if-requires-11 c κs = ((c .before .match .keys45), (omega arith, (c .before .before .wrapping-add-u32 .ensures)))
 
 jump-if-requires-12 : tie.Need-jump-if-requires-12
-jump-if-requires-12 c κs = search needs
+jump-if-requires-12 c κs = ((c .before .match .keys46), (omega arith, (c .before .before .wrapping-add-u32 .ensures)))
 
 jump-if-requires-13 : tie.Need-jump-if-requires-13
-jump-if-requires-13 c κs = search needs
+jump-if-requires-13 c κs = ((c .before .match .keys47), (omega arith, (c .before .before .wrapping-add-u32 .ensures)))
 
 jump-if-requires-14 : tie.Need-jump-if-requires-14
-jump-if-requires-14 c κs = search needs
+jump-if-requires-14 c κs = ((c .before .match .keys48), (omega arith, (c .before .before .wrapping-add-u32 .ensures)))
 
 jump-if-requires-15 : tie.Need-jump-if-requires-15
-jump-if-requires-15 c κs = search needs
+jump-if-requires-15 c κs = ((c .before .match .keys49), (omega arith, (c .before .before .wrapping-add-u32 .ensures)))
 
 jump-if-requires-16 : tie.Need-jump-if-requires-16
-jump-if-requires-16 c κs = search needs
+jump-if-requires-16 c κs = ((c .before .match .keys50), (omega arith, (c .before .before .wrapping-add-u32 .ensures)))
 
 keep-requires : tie.Need-keep-requires
-keep-requires c κs = search needs
+keep-requires c κs = ((c .before .before .before .before .before .pre .0), ((c .before .before .before .before .before .pre .1), ((c .before .before .match .keys51), (c .before .before .before .wrapping-add-u32 .ensures))))
 
 register-requires : tie.Need-register-requires
 register-requires c κs = search needs
@@ -175,16 +176,16 @@ pop-requires : tie.Need-pop-requires
 pop-requires c κs = ((c .before .before .before .before .before .pre .0), ((c .before .before .before .before .before .pre .1), (rw (c .before .before .match .keys54) refl, (c .before .before .before .wrapping-add-u32 .ensures))))
 
 call-requires : tie.Need-call-requires
-call-requires c κs = search needs
+call-requires c κs = ((c .before .before .before .before .before .pre .0), ((c .before .before .before .before .before .pre .1), ((c .before .before .match .keys55), (c .before .before .before .wrapping-add-u32 .ensures))))
 
 jump-requires : tie.Need-jump-requires
-jump-requires c κs = search needs
+jump-requires c κs = ((c .before .match .keys56), (c .before .before .wrapping-add-u32 .ensures))
 
 pop-requires-2 : tie.Need-pop-requires-2
 pop-requires-2 c κs = ((c .before .before .before .before .before .pre .0), ((c .before .before .before .before .before .pre .1), (rw (c .before .before .match .keys57) refl, (c .before .before .before .wrapping-add-u32 .ensures))))
 
 address-requires : tie.Need-address-requires
-address-requires c κs = search needs
+address-requires c κs = ((c .before .match .keys58), ((c .before .before .before .before .pre .1 .1), (c .before .before .wrapping-add-u32 .ensures)))
 
 from-byte-requires : tie.Need-from-byte-requires
 from-byte-requires c κs = ((c .before .before .before .before .before .pre .0), ((c .before .before .before .before .before .pre .1), (rw (c .before .before .match .keys59) refl, (c .before .before .before .wrapping-add-u32 .ensures))))
@@ -193,13 +194,13 @@ from-byte-requires-2 : tie.Need-from-byte-requires-2
 from-byte-requires-2 c κs = ((c .before .before .before .before .before .pre .0), ((c .before .before .before .before .before .pre .1), (rw (c .before .before .match .keys60) refl, (c .before .before .before .wrapping-add-u32 .ensures))))
 
 test-bytes-requires : tie.Need-test-bytes-requires
-test-bytes-requires c κs = search needs
+test-bytes-requires c κs = ((c .before .match .keys61), ((c .before .before .before .before .pre .1 .1), (c .before .before .wrapping-add-u32 .ensures)))
 
 double-requires : tie.Need-double-requires
-double-requires c κs = search needs
+double-requires c κs = ((c .before .match .keys62), ((c .before .before .before .before .pre .1 .1), (c .before .before .wrapping-add-u32 .ensures)))
 
 times-requires : tie.Need-times-requires
-times-requires c κs = search needs
+times-requires c κs = ((c .before .match .keys63), ((c .before .before .before .before .pre .1 .1), (c .before .before .wrapping-add-u32 .ensures)))
 
 stuck-requires : tie.Need-stuck-requires
 stuck-requires c κs = search needs
@@ -283,55 +284,55 @@ same-length : tie.Need-same-length
 same-length c = search needs
 
 returns-26 : tie.Need-returns-26
-returns-26 c = search needs
+returns-26 c = (c .combine .ensures)
 
 same-length-2 : tie.Need-same-length-2
 same-length-2 c = search needs
 
 returns-27 : tie.Need-returns-27
-returns-27 c = search needs
+returns-27 c = (c .combine2 .ensures)
 
 same-length-3 : tie.Need-same-length-3
 same-length-3 c = search needs
 
 returns-28 : tie.Need-returns-28
-returns-28 c = search needs
+returns-28 c = (c .combine3 .ensures)
 
 same-length-4 : tie.Need-same-length-4
 same-length-4 c = search needs
 
 returns-29 : tie.Need-returns-29
-returns-29 c = search needs
+returns-29 c = (c .combine4 .ensures)
 
 same-length-5 : tie.Need-same-length-5
 same-length-5 c = search needs
 
 returns-30 : tie.Need-returns-30
-returns-30 c = search needs
+returns-30 c = (c .combine5 .ensures)
 
 same-length-6 : tie.Need-same-length-6
 same-length-6 c = search needs
 
 returns-31 : tie.Need-returns-31
-returns-31 c = search needs
+returns-31 c = (c .combine6 .ensures)
 
 same-length-7 : tie.Need-same-length-7
 same-length-7 c = search needs
 
 returns-32 : tie.Need-returns-32
-returns-32 c = search needs
+returns-32 c = (c .combine7 .ensures)
 
 same-length-8 : tie.Need-same-length-8
 same-length-8 c = search needs
 
 returns-33 : tie.Need-returns-33
-returns-33 c = search needs
+returns-33 c = (c .combine8 .ensures)
 
 same-length-9 : tie.Need-same-length-9
 same-length-9 c = search needs
 
 returns-34 : tie.Need-returns-34
-returns-34 c = search needs
+returns-34 c = (c .load .ensures)
 
 returns-35 : tie.Need-returns-35
 returns-35 c = (c .jump-if .ensures) _ _ _ _ (c .before .before .before .before .before .pre .0) (c .before .before .before .before .before .pre .1)
@@ -385,31 +386,31 @@ same-length-10 : tie.Need-same-length-10
 same-length-10 c = search needs
 
 returns-51 : tie.Need-returns-51
-returns-51 c = search needs
+returns-51 c = (c .before .before .keep .ensures)
 
 same-length-11 : tie.Need-same-length-11
 same-length-11 c = search needs
 
 returns-52 : tie.Need-returns-52
-returns-52 c = search needs
+returns-52 c = (c .before .before .push .ensures)
 
 same-length-12 : tie.Need-same-length-12
 same-length-12 c = search needs
 
 returns-53 : tie.Need-returns-53
-returns-53 c = search needs
+returns-53 c = (c .before .before .push2 .ensures)
 
 same-length-13 : tie.Need-same-length-13
 same-length-13 c = search needs
 
 returns-54 : tie.Need-returns-54
-returns-54 c = search needs
+returns-54 c = (c .pop .ensures)
 
 same-length-14 : tie.Need-same-length-14
 same-length-14 c = search needs
 
 returns-55 : tie.Need-returns-55
-returns-55 c = search needs
+returns-55 c = (c .before .before .call .ensures)
 
 returns-56 : tie.Need-returns-56
 returns-56 c = (c .jump .ensures) _ _ _ _ (c .before .before .before .before .before .pre .0) (c .before .before .before .before .before .pre .1)
@@ -418,7 +419,7 @@ same-length-15 : tie.Need-same-length-15
 same-length-15 c = search needs
 
 returns-57 : tie.Need-returns-57
-returns-57 c = search needs
+returns-57 c = (c .pop2 .ensures)
 
 returns-58 : tie.Need-returns-58
 returns-58 c = (c .address .ensures) _ _ _ _ (c .before .before .before .before .before .pre .0) (c .before .before .before .before .before .pre .1)
@@ -427,13 +428,13 @@ same-length-16 : tie.Need-same-length-16
 same-length-16 c = search needs
 
 returns-59 : tie.Need-returns-59
-returns-59 c = search needs
+returns-59 c = (c .from-byte .ensures)
 
 same-length-17 : tie.Need-same-length-17
 same-length-17 c = search needs
 
 returns-60 : tie.Need-returns-60
-returns-60 c = search needs
+returns-60 c = (c .from-byte2 .ensures)
 
 returns-61 : tie.Need-returns-61
 returns-61 c = (c .test-bytes .ensures) _ _ _ _ (c .before .before .before .before .before .pre .0) (c .before .before .before .before .before .pre .1)

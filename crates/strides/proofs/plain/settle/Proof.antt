@@ -7,16 +7,13 @@ onward-requires : tie.Need-onward-requires
 onward-requires c κs = search needs
 
 returns : tie.Need-returns
-returns c = (rw (c .before .if1 .taken) refl, (c .onward .ensures))
+returns c = (rw (c .before .before .if1 .taken) refl, c .onward .ensures)
 
-put-requires : tie.Need-put-requires
-put-requires c κs = search needs
-
-onward-requires-2 : tie.Need-onward-requires-2
-onward-requires-2 c κs = search needs
+wrote-requires : tie.Need-wrote-requires
+wrote-requires c κs = search needs
 
 returns-2 : tie.Need-returns-2
-returns-2 c = (rw (c .before .before .before .if1 .left) (c .before .put .ensures), (c .onward2 .ensures))
+returns-2 c = (rw (c .before .before .if1 .left) (c .wrote .ensures .0), c .wrote .ensures .1)
 
 pub settle-spec : {M : Type 1} → statement M
-settle-spec = tie.close (tie.spec onward-requires returns put-requires onward-requires-2 returns-2)
+settle-spec = tie.close (tie.spec onward-requires returns wrote-requires returns-2)
