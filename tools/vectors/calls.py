@@ -28,6 +28,8 @@ RUNS = [
     ("a loop: five turns, then Halt", run("e2fef4", 100, regs=[0, 5, 0, 0, 0, 0, 0, 0]), ran(5, HALT, 0, 0, 0x3003, {1: 0}, 0x3002)),
     ("a budget may be any 32-bit number", run("40f4", 0xFFFFFFFF), ran(1, HALT, 0, 0, 0x3002, {0: 1}, 0x3001)),
     ("a step fetches what the step before it stored", run("c60507300000f490", 9), ran(1, HALT, 0, 0, 0x3008, eip=0x3007, stores=[(0x3007, 0xF4)])),
+    ("AND clears AF that a sum has set, and LAHF shows it", run("83c00121c09ff4", 9, regs=[0xF] + [0] * 7), ran(3, HALT, 0, 0, 0x3007, {0: 0x210}, 0x3006)),
+    ("TEST of a byte by a number clears AF, and LAHF shows it", run("f6c3019ff4", 9, eflags=0x12, regs=[0, 0, 0, 3, 0, 0, 0, 0]), ran(2, HALT, 0, 0, 0x3005, {0: 0x200}, 0x3004)),
     # each loop uses its pages again, so that what was kept of the turn before it serves the next
     ("three turns: a load, a sum with memory and a store", run("8b030343048903" "4975f6f4", 99, regs=[0, 3, 0, 0x5000, 0, 0, 0, 0], memory=[(0x5000, b"\x01"), (0x5004, b"\x05")]),
      ran(15, HALT, 0, 0, 0x300B, {0: 16, 1: 0}, 0x300A, 0x46, [(0x5000, 16)])),

@@ -2,12 +2,12 @@
 from layout import GENERATED
 
 ARITHMETIC = GENERATED[:8]
-UNDEFINED = {"OR": 0x10, "AND": 0x10, "XOR": 0x10, "TEST": 0x10, "MUL": 0xD4, "IMUL": 0xD4, "DIV": 0x8D5, "IDIV": 0x8D5}
+UNDEFINED = {"MUL": 0xD4, "IMUL": 0xD4, "DIV": 0x8D5, "IDIV": 0x8D5}
 OVERRIDES = [0x26, 0x2E, 0x36, 0x3E, 0x64, 0x65]
 
 
 def undefined(family, code, ecx):
-    """Mask of the flags that the manual calls undefined and that document 01 keeps."""
+    """Mask of the flags that the manual calls undefined and that document 01 keeps. AF after logic is 0 by document 02, as in the emulator."""
     if family not in ("SHL", "SHR", "SAR"):
         return UNDEFINED.get(family, 0)
     opcode = next(b for b in code if b not in OVERRIDES)

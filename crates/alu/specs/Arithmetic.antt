@@ -82,10 +82,10 @@ differenceStatus w a b c =
 abbrev pub difference : ℕ → ℕ → ℕ → ℕ → Out
 difference w a b c = record { value = differenceValue w a b c; status = differenceStatus w a b c }
 
--- ---- AND, OR, XOR, TEST: AF keeps its old state
+-- ---- AND, OR, XOR, TEST: CF, AF and OF are 0 (AF by document 02, request b), so nothing of the flags before, s, is kept
 
 unfoldable pub logicStatus : ℕ → Status → ℕ → Status
-logicStatus w s r = record { cf = false; pf = parity r; af = s .af; zf = isZero r; sf = sign w r; of = false }
+logicStatus w s r = record { cf = false; pf = parity r; af = false; zf = isZero r; sf = sign w r; of = false }
 
 abbrev pub logic : ℕ → Status → ℕ → Out
 logic w s r = record { value = r; status = logicStatus w s r }

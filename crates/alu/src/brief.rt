@@ -145,12 +145,13 @@ pub fn sub32(a: u32, b: u32, c: bool) -> Short
     Short { value: r, flags }
 }
 
+// AND, OR, XOR and TEST carry nothing into any place or out of the top one; f, the flags before, is there for the contract alone.
 pub fn logic32(r: u32, f: Brief) -> Short
     ensures { λ x. ⌜ outIn x ≡ logic 32 (statusIn f) r ⌝ }
 {
     let flags = Brief {
         out: 0,
-        into: f.into % 0x8000_0000,
+        into: 0,
         seen: r,
     };
     Short { value: r, flags }
@@ -194,11 +195,8 @@ pub fn sub8(a: u8, b: u8, c: bool) -> Short
 pub fn logic8(r: u8, f: Brief) -> Short
     ensures { λ x. ⌜ outIn x ≡ logic 8 (statusIn f) r ⌝ }
 {
-    let flags = Brief {
-        out: 0,
-        into: f.into % 0x8000_0000,
-        seen: crate::signed_byte(r as u32),
-    };
+    let shown = logic32(crate::signed_byte(r as u32), f);
+    let flags = shown.flags;
     Short {
         value: r as u32,
         flags,

@@ -15,7 +15,7 @@ out-in-requires c κs = search needs
 
 returns : tie.Need-returns
 unfolding logicStatus
-returns c = c .out-in .ensures ∙ c .before .logic32 .ensures ∙ rw (c .before .before .kept .ensures .1 .0)
+returns c = c .out-in .ensures ∙ c .before .logic32 .ensures
 
 pub logic32-spec : {M : Type 1} → statement M
 logic32-spec = tie.close (tie.spec kept-requires logic32-requires out-in-requires returns)
