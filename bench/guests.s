@@ -1,4 +1,4 @@
-# Five small programs for measuring, in one image that is loaded at address 0. Linear and physical addresses are the same.
+# Six small programs for measuring, in one image that is loaded at address 0. Linear and physical addresses are the same.
 # Each starts at a page of its own with EBP the number of rounds, ESP the stack's top and every other register 0, leaves its result in EBX,
 # and ends with INT 31h at `finish`. The flags that stand at the end are all defined by the manual.
     .intel_syntax noprefix
@@ -110,6 +110,21 @@ fibonacci:
     test    al, al
     jnz     2b
 3:  add     ebx, esi
+    finished
+
+# ---- 6: parity: the running sum of a block, PF of each sum asked for by a jump, as a byte and in AH
+    .org 0x15000, 0
+1:  mov     esi, FROM
+    mov     ecx, 1024
+2:  add     eax, [esi]
+    setp    dl
+    lahf
+    jnp     3f
+    inc     ebx
+3:  add     ebx, edx
+    add     esi, 4
+    dec     ecx
+    jnz     2b
     finished
 
     .org FINISH, 0

@@ -20,7 +20,7 @@
 static const struct {
     const char *name;
     uint32_t rounds;
-} GUESTS[5] = {{"two-word subtraction", 4000}, {"copy and sum 4 KiB", 2800}, {"calls and stack", 2800}, {"shifts and multiply", 1300}, {"text compare", 750}};
+} GUESTS[] = {{"two-word subtraction", 4000}, {"copy and sum 4 KiB", 2800}, {"calls and stack", 2800}, {"shifts and multiply", 1300}, {"text compare", 750}, {"parity", 300}};
 
 uint8_t *new_memory(size_t length) {
     uint8_t *memory = calloc(length, 1);
@@ -115,4 +115,5 @@ void make_jobs(struct job jobs[JOBS], const char *guests, const char *sync, int 
     for (int i = 0; i < 5; i++)
         jobs[i] = guest_job(i, guests, quick);
     jobs[5] = sync_job(sync, quick);
+    jobs[6] = guest_job(5, guests, quick);
 }

@@ -1,10 +1,10 @@
-/* The guests that are measured: five of guests.s and the sync program. */
+/* The guests that are measured: six of guests.s and the sync program. */
 #ifndef JOBS_H
 #define JOBS_H
 
 #include "engine.h"
 
-#define JOBS 6
+#define JOBS 7
 
 /* GUESTS and SYNC are files with the images; a quick job is a tenth as long. The instructions are counted by a run of ours. */
 void make_jobs(struct job jobs[JOBS], const char *guests, const char *sync, int quick);

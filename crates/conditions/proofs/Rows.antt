@@ -6,7 +6,6 @@ use Prim.Native.Nat.{ℕ, _<_}
 use lib.Dec.{T}
 use lib.ListN.{length, getD}
 use Rattle.alu.specs.declared.Status.{Status}
-use Rattle.conditions.specs.declared.Row.{Row}
 use Rattle.conditions.specs.Conditions.{holds, rowHolds}
 use Rattle.conditions.proofs.Table.{both, both-left, both-right, beq-eq, every, at}
 
@@ -48,8 +47,8 @@ module _ (p : Status → Bool) where
       let t5 = each-at (p5 (f .cf) (f .pf) (f .af) (f .zf)) t4 (f .sf) in
       each-at (λ o. p (flags (f .cf) (f .pf) (f .af) (f .zf) (f .sf) o)) t5 (f .of)
 
-abbrev pub right : ℕ → Row → Bool
+abbrev pub right : ℕ → ℕ → Bool
 right k r = eachFlags (λ f. Bool·beq (rowHolds r f) (holds k f))
 
-pub rule : (xs : List Row) (d : Row) (k : ℕ) (f : Status) → k < length xs → T (every right 0 xs) → rowHolds (getD xs k d) f ≡ holds k f
+pub rule : (xs : List ℕ) (d : ℕ) (k : ℕ) (f : Status) → k < length xs → T (every right 0 xs) → rowHolds (getD xs k d) f ≡ holds k f
 rule xs d k f h t = beq-eq _ _ (eachFlags-at (λ g. Bool·beq (rowHolds (getD xs k d) g) (holds k g)) (at right xs d k h t) f)

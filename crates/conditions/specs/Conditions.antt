@@ -1,10 +1,10 @@
 -- The sixteen conditions, by the opcode's low four bits.
-use Prim.Native.Nat.{ℕ}
+use Prim.Native.Nat.{ℕ, _/_, _%_}
 use mathlib.Core.Bool.{Bool, false, not, _&&_, _||_, Bool·beq}
 use mathlib.Core.List.{List, [], _∷_}
+use lib.Dec.{eqb}
 use lib.ListN.{getD}
 use Rattle.alu.specs.declared.Status.{Status}
-use Rattle.conditions.specs.declared.Row.{Row}
 
 -- SF and OF differ
 abbrev pub less : Status → Bool
@@ -19,7 +19,15 @@ conditions f =
 unfoldable pub holds : ℕ → Status → Bool
 holds n f = getD (conditions f) n false
 
+-- a row is a number whose bits say what it names: is the lowest one set?
+abbrev pub named : ℕ → Bool
+named r = eqb (r % 2) 1
+
 -- what a row of the table says of the flags
-abbrev pub rowHolds : Row → Status → Bool
+abbrev pub rowHolds : ℕ → Status → Bool
 rowHolds r f =
-    not (Bool·beq (r .o && f .of || r .c && f .cf || r .z && f .zf || r .s && f .sf || r .p && f .pf || r .less && less f) (r .negated))
+    not
+    (Bool·beq
+    (named r && f .of || named (r / 2) && f .cf || named (r / 4) && f .zf || named (r / 8) && f .sf || named (r / 16) && f .pf
+    || named (r / 32) && less f)
+    (named (r / 64)))

@@ -3,174 +3,51 @@ ghost use mathlib.Core.Path.{_≡_};
 ghost use Rattle.conditions.specs.Conditions.{holds, rowHolds};
 use alu::Status;
 
-// A condition holds where one of the flags that its row names is set (less: SF and OF differ), or, if negated, where none is.
-pub struct Row {
-    pub o: bool,
-    pub c: bool,
-    pub z: bool,
-    pub s: bool,
-    pub p: bool,
-    pub less: bool,
-    pub negated: bool,
-}
+// What a row may name, a bit each: flags, less (SF and OF differ), and whether the condition is that none of those holds. A row is a byte because the
+// table is laid out anew wherever it is indexed.
+const O: u8 = 1;
 
-const ROWS: [Row; 16] = [
-    Row {
-        o: true,
-        c: false,
-        z: false,
-        s: false,
-        p: false,
-        less: false,
-        negated: false,
-    },
-    Row {
-        o: true,
-        c: false,
-        z: false,
-        s: false,
-        p: false,
-        less: false,
-        negated: true,
-    },
-    Row {
-        o: false,
-        c: true,
-        z: false,
-        s: false,
-        p: false,
-        less: false,
-        negated: false,
-    },
-    Row {
-        o: false,
-        c: true,
-        z: false,
-        s: false,
-        p: false,
-        less: false,
-        negated: true,
-    },
-    Row {
-        o: false,
-        c: false,
-        z: true,
-        s: false,
-        p: false,
-        less: false,
-        negated: false,
-    },
-    Row {
-        o: false,
-        c: false,
-        z: true,
-        s: false,
-        p: false,
-        less: false,
-        negated: true,
-    },
-    Row {
-        o: false,
-        c: true,
-        z: true,
-        s: false,
-        p: false,
-        less: false,
-        negated: false,
-    },
-    Row {
-        o: false,
-        c: true,
-        z: true,
-        s: false,
-        p: false,
-        less: false,
-        negated: true,
-    },
-    Row {
-        o: false,
-        c: false,
-        z: false,
-        s: true,
-        p: false,
-        less: false,
-        negated: false,
-    },
-    Row {
-        o: false,
-        c: false,
-        z: false,
-        s: true,
-        p: false,
-        less: false,
-        negated: true,
-    },
-    Row {
-        o: false,
-        c: false,
-        z: false,
-        s: false,
-        p: true,
-        less: false,
-        negated: false,
-    },
-    Row {
-        o: false,
-        c: false,
-        z: false,
-        s: false,
-        p: true,
-        less: false,
-        negated: true,
-    },
-    Row {
-        o: false,
-        c: false,
-        z: false,
-        s: false,
-        p: false,
-        less: true,
-        negated: false,
-    },
-    Row {
-        o: false,
-        c: false,
-        z: false,
-        s: false,
-        p: false,
-        less: true,
-        negated: true,
-    },
-    Row {
-        o: false,
-        c: false,
-        z: true,
-        s: false,
-        p: false,
-        less: true,
-        negated: false,
-    },
-    Row {
-        o: false,
-        c: false,
-        z: true,
-        s: false,
-        p: false,
-        less: true,
-        negated: true,
-    },
+const C: u8 = 2;
+
+const Z: u8 = 4;
+
+const S: u8 = 8;
+
+const P: u8 = 16;
+
+const LESS: u8 = 32;
+
+const NONE: u8 = 64;
+
+const ROWS: [u8; 16] = [
+    O,
+    O + NONE,
+    C,
+    C + NONE,
+    Z,
+    Z + NONE,
+    C + Z,
+    C + Z + NONE,
+    S,
+    S + NONE,
+    P,
+    P + NONE,
+    LESS,
+    LESS + NONE,
+    Z + LESS,
+    Z + LESS + NONE,
 ];
 
-pub fn row_holds(row: Row, f: Status) -> bool
+pub fn row_holds(row: u8, f: Status) -> bool
     ensures { λ r. ⌜ r ≡ rowHolds row f ⌝ }
 {
-    let any = (row.o & f.of)
-        | (row.c & f.cf)
-        | (row.z & f.zf)
-        | (row.s & f.sf)
-        | (row.p & f.pf)
-        | (row.less & (f.sf != f.of));
-    any != row.negated
+    let any = ((row % 2 == 1) & f.of)
+        | ((row / 2 % 2 == 1) & f.cf)
+        | ((row / 4 % 2 == 1) & f.zf)
+        | ((row / 8 % 2 == 1) & f.sf)
+        | ((row / 16 % 2 == 1) & f.pf)
+        | ((row / 32 % 2 == 1) & (f.sf != f.of));
+    any != (row / 64 % 2 == 1)
 }
 
 // Does the condition hold? Numbers above 15 name none.
