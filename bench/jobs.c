@@ -20,7 +20,7 @@
 static const struct {
     const char *name;
     uint32_t rounds;
-} GUESTS[] = {{"two-word subtraction", 4000}, {"copy and sum 4 KiB", 2800}, {"calls and stack", 2800}, {"shifts and multiply", 1300}, {"text compare", 750}, {"parity", 300}};
+} GUESTS[] = {{"two-word subtraction", 4000}, {"copy and sum 4 KiB", 2800}, {"calls and stack", 2800}, {"shifts and multiply", 1300}, {"text compare", 750}, {"parity", 2000}};
 
 uint8_t *new_memory(size_t length) {
     uint8_t *memory = calloc(length, 1);
