@@ -10,7 +10,8 @@ import subprocess
 import sys
 
 TOP = os.path.join(os.path.dirname(os.path.abspath(__file__)), "../..")
-A, B, S, P, G, X, E, N, D, M, R, U = "alu", "alu/brief", "shifts", "products", "paging", "access", "encoding", "fetch", "decode", "machine", "micro32", "audit"
+A, B, S, P, CC, G, X, E, N, D, M, R, U = (
+    "alu", "alu/brief", "shifts", "products", "conditions", "paging", "access", "encoding", "fetch", "decode", "machine", "micro32", "audit")
 Q, H, O, F, T, W = "keptpages", "keptpages/held", "outcome", "shortcut/bytes", "shortcut", "hops"  # the quick way's
 I, K, L, C, Z, J, V, Y = "forms", "blocks", "strides", "strides/plain", "strides/ends", "strides/memory", "swift", "sprints"  # and its blocks'
 # where it stands, the wrong rule in words, the text of the rule, the wrong text
@@ -24,6 +25,11 @@ RULES = [
     (B, "OF of a difference of bytes is CF", "< s),\n        into: byte_places(a as u32 ^ b as u32 ^ r),", "< s),\n        into: byte_places(a as u32 ^ b as u32 ^ r) % 0x8000_0000,"),
     (B, "carry out of a byte at 255", "out: t / 256,", "out: (t + 1) / 256,"),
     (A, "parity of the whole dword", "u32::count_ones(x % 256) % 2 == 0", "u32::count_ones(x) % 2 == 0"),
+    (A, "parity of seven bits", "u32::count_ones(x % 256) % 2 == 0", "u32::count_ones(x % 128) % 2 == 0"),
+    (CC, "JP and SETP ask for SF too", "    P,\n", "    P + S,\n"),
+    (CC, "JNP and SETNP are JP and SETP", "    P + NONE,", "    P,"),
+    (CC, "JA and SETA ask for CF alone", "    C + Z + NONE,", "    C + NONE,"),
+    (CC, "JLE and SETLE without ZF", "    Z + LESS,\n", "    LESS,\n"),
     (B, "AF kept after logic", "into: 0,\n        seen: r,", "into: f.into % 0x8000_0000,\n        seen: r,"),
     (A, "AF kept after TEST of dwords", "8 => logic32(a & b, s),",
      "8 => {\n            let o = logic32(a & b, s);\n            let mut t = o.status;\n            t.af = s.af;\n            Out { value: o.value, status: t }\n        }"),
