@@ -125,7 +125,7 @@ sum:
 
 # compare_at PLACE: goes to `moved` unless the two numbers of 64 bits at PLACE of the waypoints differ by -1, 0 or 1. The last bit of a
 # position wavers by itself and isn't worth a message. With the difference d in EDX:EAX, that is d + 1 < 3 without a sign, and so a
-# borrow out of (d + 1) - 3: one jump tests all 64 bits.
+# borrow out of (d + 1) - 3: one jump tests all 64 bits (proved: crates/positions, `Wavering`).
     .macro compare_at place
     mov     eax, [esi + \place]
     mov     edx, [esi + \place + 4]

@@ -1,9 +1,14 @@
 """Directed cases of a run and of the audit, written from document 01 by hand: family, rule, what is asked, what is to come of it."""
 import remaps
-from hand import CODE, MAP, SELF, audit, case, no, ran, run
+from hand import CODE, MAP, SELF, audit, case, d, no, ran, run
 from layout import BAD, EXPOSED, FAULT, HALT, NO_MEMORY, NOT_BUILT, RUN, SAFE, SPENT, TABLE_OUTSIDE, TRAP
 
 STORE = "c6050050000007"  # MOV BYTE [5000h],7
+# MOV EAX,[EDI] and ADD [ESI],EAX, then the same with ADC at 4, 8 and 12; and with SUB and SBB
+ADD_FOUR = "8b070106" "8b4704114604" "8b4708114608" "8b470c11460c"
+SUB_FOUR = "8b072906" "8b4704194604" "8b4708194608" "8b470c19460c"
+AT = [0, 0, 0, 0, 0, 0, 0x5000, 0x5010]
+LONG = d(0xFFFFFFFF) + d(0xFFFFFFFE) + d(0) + d(0xFFFFFFFF)
 RUNS = [
     ("a budget of 0 is Spent with nothing done", run("40", 0), ran(0, SPENT)),
     ("a budget of 1 takes one step", run("4043", 1), ran(1, SPENT, regs={0: 1}, eip=0x3001)),
@@ -41,6 +46,13 @@ RUNS = [
      ran(17, HALT, 0, 0, 0x300D, {0: 0x7A, 6: 0x5002, 7: 0x5012}, 0x300C)),
     ("two turns: a difference of two dwords each, with the borrow, which DEC keeps", run("8b068b56042b071b5704" "4975f3f4", 99, regs=[0, 2, 0, 0, 0, 0, 0x5000, 0x5010], memory=[(0x5010, b"\x01\0\0\0\x01")]),
      ran(12, HALT, 0, 0, 0x300E, {0: 0xFFFFFFFF, 1: 0, 2: 0xFFFFFFFE}, 0x300D, 0x47)),
+    # positions of four dwords, the lowest first
+    ("ADD and three ADCs: the carry goes through four dwords and out", run(ADD_FOUR + "f4", 99, regs=AT, memory=[(0x5000, LONG), (0x5010, d(1) * 2 + d(0xFFFFFFFF))]),
+     ran(8, HALT, 0, 0, 0x3017, eip=0x3016, eflags=0x57, stores=[(0x5000 + i, 0) for i, b in enumerate(LONG) if b])),
+    ("SUB and three SBBs: the borrow goes through dwords of ones and out", run(SUB_FOUR + "f4", 99, regs=AT, memory=[(0x5008, d(5) + d(1)), (0x5010, d(1) + d(0xFFFFFFFF) * 2 + d(1))]),
+     ran(8, HALT, 0, 0, 0x3017, {0: 1}, 0x3016, 0x97, [(a + i, 0xFF) for a in (0x5000, 0x500C) for i in range(4)])),
+    ("SUB and SBBs take away what ADD and ADCs added", run(ADD_FOUR + SUB_FOUR + "f4", 99, regs=AT, memory=[(0x5000, LONG), (0x5010, d(1) * 2 + d(0xFFFFFFFF))]),
+     ran(16, HALT, 0, 0, 0x302D, eip=0x302C, eflags=0x97)),
     ("three turns: an instruction is fetched as the one before it stored it", run("890341bb023000003503000000" "4e75f0f4", 99, regs=[0x3002BB41, 0, 0, 0x5000, 0, 0, 3, 0]),
      ran(18, HALT, 0, 0, 0x3011, {0: 0x3002BB42, 1: 2, 2: 1, 3: 0x3002, 6: 0}, 0x3010, 0x46, [(0x5000 + i, b) for i, b in enumerate(b"\x41\xbb\x02\x30")])),
     ("two turns: an instruction nine bytes on is fetched as the turn before stored it", run("41" * 8 + "4289034e75f2f4", 99, regs=[0x4E038945, 0, 0, 0x3008, 0, 0, 2, 0]),

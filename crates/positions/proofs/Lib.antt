@@ -1,0 +1,6 @@
+pub mod Worked
+pub mod Numbers
+pub mod Links
+pub mod Long
+pub mod Whole
+pub mod Wavering
