@@ -19,7 +19,7 @@ number w (x ∷ xs) = x + 2 ^ w * number w xs
 abbrev pub Instruction : Type 0
 Instruction = ℕ → ℕ → Status → Out
 
--- ---- by their numbers in the arithmetic
+-- ---- by their numbers in the arithmetic (crates/alu/specs/Arithmetic.antt, `results`)
 
 abbrev pub add : ℕ → Instruction
 add w a b s = operation 0 w a b s
@@ -33,7 +33,7 @@ sbb w a b s = operation 3 w a b s
 abbrev pub sub : ℕ → Instruction
 sub w a b s = operation 5 w a b s
 
--- ---- one after the other
+-- ---- one after the other, to the end of the shorter list
 
 -- the words that are left, and the flags after the last instruction
 pub record Left : Type 0 where

@@ -27,7 +27,7 @@ pub record Sum (w : ℕ) (xs ys : List ℕ) (r : Left) : Type 0 where
 abbrev pub Sums : Type 0
 Sums = (w : ℕ) (xs ys : List ℕ) (s : Status) → EquallyLong w xs ys → Sum w xs ys (added w xs ys s)
 
--- ---- SUB followed by SBBs is subtraction modulo 2 ^ (w * count), and the last CF is set exactly where the first number is the lesser
+-- ---- SUB followed by SBBs is subtraction modulo 2 ^ (w * count), and the last CF is set exactly where the first number is less than the second
 
 pub record Difference (w : ℕ) (xs ys : List ℕ) (r : Left) : Type 0 where
   pub long : EquallyLong w (r .words) xs
