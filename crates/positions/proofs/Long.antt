@@ -1,5 +1,5 @@
 -- A chain word by word, and so as a whole: its words, and the carry or borrow out of the top one. Assumes nothing.
-use Prim.Native.Nat.{ℕ, suc, _+_, _*_, _^_}
+use Prim.Native.Nat.{ℕ, suc, _+_, _*_, _^_, _<_}
 use native.Mathlib.Nat.{mod-lt, mul-zero}
 use native.Mathlib.Omega.{arith}
 use mathlib.Core.Path.{_≡_, refl, sym, ap}
@@ -19,17 +19,18 @@ all-length f [] ys s e = refl
 all-length f (x ∷ xs) [] s e = absurd (omega arith)
 all-length f (x ∷ xs) (y ∷ ys) s e = ap suc (all-length f xs ys _ (omega arith))
 
+all-words : (w : ℕ) (f : Instruction) → ((x y : ℕ) (s : Status) → f x y s .value < 2 ^ w) → (xs ys : List ℕ) (s : Status) → Words w (all f xs ys s .words)
+all-words w f h [] ys s = tt
+all-words w f h (x ∷ xs) [] s = tt
+all-words w f h (x ∷ xs) (y ∷ ys) s = (h x y s, all-words w f h xs ys _)
+
 pub sums-words : (w : ℕ) (xs ys : List ℕ) (s : Status) → Words w (all (adc w) xs ys s .words)
 unfolding operation
-sums-words w [] ys s = tt
-sums-words w (x ∷ xs) [] s = tt
-sums-words w (x ∷ xs) (y ∷ ys) s = (mod-lt _ (pow-pos w), sums-words w xs ys _)
+sums-words w = all-words w (adc w) (λ x y s. mod-lt _ (pow-pos w))
 
 pub differences-words : (w : ℕ) (xs ys : List ℕ) (s : Status) → Words w (all (sbb w) xs ys s .words)
 unfolding operation
-differences-words w [] ys s = tt
-differences-words w (x ∷ xs) [] s = tt
-differences-words w (x ∷ xs) (y ∷ ys) s = (mod-lt _ (pow-pos w), differences-words w xs ys _)
+differences-words w = all-words w (sbb w) (λ x y s. mod-lt _ (pow-pos w))
 
 -- ---- the whole
 
