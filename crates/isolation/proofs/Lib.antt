@@ -4,3 +4,4 @@ pub mod Isolation
 pub mod Kept
 pub mod Ring3
 pub mod Noninterference
+pub mod Twins

@@ -1,6 +1,6 @@
--- Two memories that agree on the tables and on what ring 3 can read: runs in ring 3 cannot tell them apart.
+-- Two memories that agree on what ring 3 is shown: its runs cannot tell them apart, and leave two that agree again.
 -- Assumes nothing.
-use Prim.Native.Nat.{ℕ, zero, suc, _/_, _%_, _<_}
+use Prim.Native.Nat.{ℕ, zero, suc, _+_, _*_, _/_, _%_, _<_}
 use mathlib.Core.Path.{_≡_, refl, sym, ap, _∙_, subst, fun-ext}
 use mathlib.Core.Bool.{Bool, true, false, cond}
 use mathlib.Core.List.{List, [], _∷_, _++_}
@@ -18,32 +18,46 @@ use Rattle.machine.specs.Paging.{Translation, At, No, translate, Byte, seen, Vi
 use Rattle.machine.specs.Commit.{Patch, patch, patches, Touch, Store, marksOf, ifAt, marks, stored, touched, written, commit}
 use Rattle.machine.specs.Audit.{audit}
 use Rattle.machine.specs.Run.{Plan, Finish, Stop, Planner, Outcome, settle, End, onward, checked, step, steps, run}
-use Rattle.isolation.specs.Twins.{Agree, Twin, TwinEnd}
-use Rattle.isolation.proofs.Same.{SameMaps, pageOf-same, translate-same}
-use Rattle.isolation.proofs.Audited.{audit-tables}
+use Rattle.isolation.specs.Guarded.{TableFrame, MappedFrame}
+use Rattle.isolation.specs.Twins.{Shown, asTable, asReadable, Agree, Twins, SameEnd, Hides}
+use Rattle.isolation.proofs.Same.{SameMaps, pageOf-same, translate-same, tables-same}
+use Rattle.isolation.proofs.Audited.{audit-tables, tables-audit}
 use Rattle.isolation.proofs.Isolation.{bytes-same, translate-mapped, patches-length}
 use Rattle.isolation.proofs.Kept.{run-sound}
-use Rattle.isolation.proofs.Ring3.{Confined, confined-on, Held, step-held, table-back, mapped-back}
+use Rattle.isolation.proofs.Ring3.{Confined, confined-on, Held, step-held, run-held, run-guarded, same-sym, table-back, mapped-back}
 
 -- ---- the views are equal
 
-agree-same : (c : Control) (m n : Mem) → Agree c m n → SameMaps c m n
-agree-same c m n g =
-    bytes-same m n c (g .size) (record {
-      low = λ i t. (ap (λ (x : ℕ). x % 32) (g .onTables i t), ap (λ (x : ℕ). x / 128) (g .onTables i t));
-      high = λ i t o. g .onTables i t;
-    })
+-- frames that hold all that memory m shows
+abbrev Covers : (ℕ → Type 0) → Mem → Control → Type 0
+Covers frames m c = (f : ℕ) → Shown m c f → frames f
 
-module _ (c : Control) (on : paging c ≡ true) (ring3 : user c ≡ true) (m n : Mem) (g : Agree c m n) where
-  seen-same : (w : Bool) (l : ℕ) (r : Translation) → translate m c w l ≡ r → seen m r ≡ seen n r
-  seen-same w l (At p) e = let t = translate-mapped m c on ring3 w l p e in ap Byte (g .onUser p (t .0) (t .1))
-  seen-same w l (No q) e = refl
+pub shown-back : (c : Control) (m n : Mem) → SameMaps c m n → (f : ℕ) → Shown n c f → Shown m c f
+shown-back c m n s f (asTable t) = asTable (table-back c m n s f t)
+shown-back c m n s f (asReadable u) = asReadable (u .0, mapped-back c m n s (u .0) f (u .1))
 
-  view-same : view m c ≡ view n c
-  unfolding view
-  view-same =
-      let s : SameMaps c m n = agree-same c m n g in
-      fun-ext (λ w. fun-ext (λ l. seen-same w l (translate m c w l) refl ∙ ap (seen n) (translate-same c m n s w l)))
+module _ (frames : ℕ → Type 0) (c : Control) (m n : Mem) (covers : Covers frames m c) (g : Agree frames m n) where
+  table-byte : (i : ℕ) → TableFrame m c (i / 4096) → at m i ≡ at n i
+  table-byte i t = g .bytes i (covers _ (asTable t))
+
+  pub agree-same : SameMaps c m n
+  agree-same =
+      bytes-same m n c (g .size) (record {
+        low = λ i t. (ap (λ (x : ℕ). x % 32) (table-byte i t), ap (λ (x : ℕ). x / 128) (table-byte i t));
+        high = λ i t o. table-byte i t;
+      })
+
+  module _ (on : paging c ≡ true) (ring3 : user c ≡ true) where
+    seen-same : (w : Bool) (l : ℕ) (r : Translation) → translate m c w l ≡ r → seen m r ≡ seen n r
+    seen-same w l (At p) e =
+        let t = translate-mapped m c on ring3 w l p e in
+        ap Byte (g .bytes p (covers _ (asReadable (t .0, t .1))))
+    seen-same w l (No q) e = refl
+
+    view-same : view m c ≡ view n c
+    unfolding view
+    view-same = fun-ext (λ w. fun-ext (λ l.
+        seen-same w l (translate m c w l) refl ∙ ap (seen n) (translate-same c m n agree-same w l)))
 
 -- ---- the patches are equal, and what they leave agrees
 
@@ -97,79 +111,77 @@ module _ (c : Control) (m n : Mem) (s : SameMaps c m n) where
 
 -- ---- a step, a run
 
--- agreement goes through what keeps the maps and takes equal bytes to equal bytes
-agree-after : (c : Control) (m n m′ n′ : Mem) → Agree c m n → SameMaps c m m′ → length m′ ≡ length n′
-    → ((i : ℕ) → at m i ≡ at n i → at m′ i ≡ at n′ i) → Agree c m′ n′
-agree-after c m n m′ n′ g s size same = record {
-  size = size;
-  onTables = λ i t. same i (g .onTables i (table-back c m m′ s _ t));
-  onUser = λ i rw′ u. same i (g .onUser i rw′ (mapped-back c m m′ s rw′ _ u));
-}
+-- the same reply and record, and memories that agree on these frames
+record SameOutcome (frames : ℕ → Type 0) (o o′ : Outcome) : Type 0 where
+  reply : o .reply ≡ o′ .reply
+  cpu : o .cpu ≡ o′ .cpu
+  mem : Agree frames (o .mem) (o′ .mem)
 
-module _ (m n : Mem) (r : Cpu) (g : Agree (r .control) m n) where
-  settle-twin : (p : Plan) → Held m (r .control) (settle m r p) → Twin (r .control) (settle m r p) (settle n r p)
-  unfolding settle
-  settle-twin (Finish k ts ss) h =
-      let c : Control = r .control in
-      let s : SameMaps c m n = agree-same c m n g in
-      let after : Agree c (commit m c ts ss) (commit n c ts ss) =
-      agree-after c m n _ _ g (h .same) (commit-sizes c m n s ts ss) (commit-same c m n s ts ss) in
-      record { reply = refl; cpu = refl; mem = after }
-  settle-twin (Stop q) h = record { reply = refl; cpu = refl; mem = g }
-
-  checked-twin : (b : Bool) (p : Plan) → Held m (r .control) (checked b m r p)
-      → Twin (r .control) (checked b m r p) (checked b n r p)
-  unfolding checked
-  checked-twin true p h = settle-twin p h
-  checked-twin false p h = record { reply = refl; cpu = refl; mem = g }
-
-onward-twin : (c : Control) (b : Bool) (o o′ : Outcome) (go : Mem → Cpu → End)
-    → Twin c o o′ → TwinEnd c (go (o .mem) (o .cpu)) (go (o′ .mem) (o′ .cpu)) → TwinEnd c (onward b o go) (onward b o′ go)
-unfolding onward
-onward-twin c true o o′ go t e = record { count = ap suc (e .count); last = e .last }
-onward-twin c false o o′ go t e = record { count = refl; last = t }
-
-sound-same : (m n : Mem) (r : Cpu) → length m ≡ length n → sound m r ≡ sound n r
+pub sound-same : (m n : Mem) (r : Cpu) → length m ≡ length n → sound m r ≡ sound n r
 sound-same m n r e = λ i. soundAt (e i) r
 
-module _ (plan : Planner) where
-  step-twin : (m n : Mem) (r : Cpu) → Agree (r .control) m n → Confined m (r .control)
-      → Twin (r .control) (step plan m r) (step plan n r)
+module _ (frames : ℕ → Type 0) where
+  settle-twin : (m n : Mem) (r : Cpu) → SameMaps (r .control) m n → Agree frames m n → (p : Plan)
+      → SameOutcome frames (settle m r p) (settle n r p)
+  unfolding settle
+  settle-twin m n r s g (Finish k ts ss) =
+      let c : Control = r .control in
+      let after : Agree frames (commit m c ts ss) (commit n c ts ss) =
+      record { size = commit-sizes c m n s ts ss; bytes = λ i f. commit-same c m n s ts ss i (g .bytes i f) } in
+      record { reply = refl; cpu = refl; mem = after }
+  settle-twin m n r s g (Stop q) = record { reply = refl; cpu = refl; mem = g }
+
+  checked-twin : (m n : Mem) (r : Cpu) → SameMaps (r .control) m n → Agree frames m n → (b : Bool) (p : Plan)
+      → SameOutcome frames (checked b m r p) (checked b n r p)
+  unfolding checked
+  checked-twin m n r s g true p = settle-twin m n r s g p
+  checked-twin m n r s g false p = record { reply = refl; cpu = refl; mem = g }
+
+  onward-twin : (b : Bool) (o o′ : Outcome) (go : Mem → Cpu → End)
+      → SameOutcome frames o o′ → SameEnd frames (go (o .mem) (o .cpu)) (go (o′ .mem) (o′ .cpu))
+      → SameEnd frames (onward b o go) (onward b o′ go)
+  unfolding onward
+  onward-twin true o o′ go t e = record { reply = e .reply; count = ap suc (e .count); cpu = e .cpu; mem = e .mem }
+  onward-twin false o o′ go t e = record { reply = t .reply; count = refl; cpu = t .cpu; mem = t .mem }
+
+module _ (frames : ℕ → Type 0) (plan : Planner) where
+  step-twin : (m n : Mem) (r : Cpu) → Covers frames m (r .control) → Agree frames m n → Confined m (r .control)
+      → SameOutcome frames (step plan m r) (step plan n r)
   unfolding step
-  step-twin m n r g u =
+  step-twin m n r covers g u =
       let c : Control = r .control in
       let k : View → Plan = plan (coreOf r) (iopl (r .eflags)) (c .ring) in
-      subst (λ (o : Outcome). Twin c (step plan m r) o)
-      (λ i. checked (sound-same m n r (g .size) i) n r (k (view-same c (u .on) (u .ring3) m n g i)))
-      (checked-twin m n r g (sound m r) (k (view m c)) (step-held plan m r c refl u))
+      subst (SameOutcome frames (step plan m r))
+      (λ i. checked (sound-same m n r (g .size) i) n r (k (view-same frames c m n covers g (u .on) (u .ring3) i)))
+      (checked-twin frames m n r (agree-same frames c m n covers g) g (sound m r) (k (view m c)))
 
   -- the records before the step are one, and so they are after it
-  step-twins : (m n : Mem) (r r′ : Cpu) (c : Control) → r ≡ r′ → r .control ≡ c → Agree c m n → Confined m c
-      → Twin c (step plan m r) (step plan n r′)
-  step-twins m n r r′ c q e g u =
-      let t : Twin c (step plan m r) (step plan n r) =
-      subst (λ (x : Control). Twin x (step plan m r) (step plan n r)) e (step-twin m n r (rw e g) (rw e u)) in
-      subst (λ (x : Cpu). Twin c (step plan m r) (step plan n x)) q t
+  step-twins : (m n : Mem) (r r′ : Cpu) (c : Control) → r ≡ r′ → r .control ≡ c → Covers frames m c → Agree frames m n → Confined m c
+      → SameOutcome frames (step plan m r) (step plan n r′)
+  step-twins m n r r′ c q e covers g u =
+      subst (λ (x : Cpu). SameOutcome frames (step plan m r) (step plan n x)) q (step-twin m n r (rw e covers) g (rw e u))
 
-  steps-twin : (k : ℕ) (m n : Mem) (r r′ : Cpu) (c : Control) → r ≡ r′ → r .control ≡ c → Agree c m n → Confined m c
-      → TwinEnd c (steps plan k m r) (steps plan k n r′)
+  steps-twin : (k : ℕ) (m n : Mem) (r r′ : Cpu) (c : Control) → r ≡ r′ → r .control ≡ c → Covers frames m c → Agree frames m n → Confined m c
+      → SameEnd frames (steps plan k m r) (steps plan k n r′)
   unfolding steps
-  steps-twin zero m n r r′ c q e g u = record { count = refl; last = record { reply = refl; cpu = q; mem = g } }
-  steps-twin (suc k) m n r r′ c q e g u =
+  steps-twin zero m n r r′ c q e covers g u = record { reply = refl; count = refl; cpu = q; mem = g }
+  steps-twin (suc k) m n r r′ c q e covers g u =
       let o : Outcome = step plan m r in
       let o′ : Outcome = step plan n r′ in
       let go : Mem → Cpu → End = λ m′ r″. steps plan k m′ r″ in
       let h : Held m c o = step-held plan m r c e u in
-      let t : Twin c o o′ = step-twins m n r r′ c q e g u in
-      let u′ : Confined (o .mem) c = confined-on c m (o .mem) (h .same) u in
-      let rest : TwinEnd c (go (o .mem) (o .cpu)) (go (o′ .mem) (o′ .cpu)) =
-      steps-twin k (o .mem) (o′ .mem) (o .cpu) (o′ .cpu) c (t .cpu) (h .control) (t .mem) u′ in
-      subst (λ (b : Bool). TwinEnd c (onward (isDone (o .reply)) o go) (onward b o′ go)) (ap isDone (t .reply))
-      (onward-twin c (isDone (o .reply)) o o′ go t rest)
+      let t : SameOutcome frames o o′ = step-twins m n r r′ c q e covers g u in
+      let covers′ : Covers frames (o .mem) c = λ f x. covers f (shown-back c m (o .mem) (h .same) f x) in
+      let rest : SameEnd frames (go (o .mem) (o .cpu)) (go (o′ .mem) (o′ .cpu)) =
+      steps-twin k (o .mem) (o′ .mem) (o .cpu) (o′ .cpu) c (t .cpu) (h .control) covers′ (t .mem) (confined-on c m (o .mem) (h .same) u) in
+      subst (λ (b : Bool). SameEnd frames (onward (isDone (o .reply)) o go) (onward b o′ go)) (ap isDone (t .reply))
+      (onward-twin frames (isDone (o .reply)) o o′ go t rest)
 
-  pub run-twin : (k : ℕ) (m n : Mem) (r : Cpu) → r .control .ring ≡ 3 → paging (r .control) ≡ true → audit m r ≡ Safe
-      → Agree (r .control) m n → TwinEnd (r .control) (run plan k m r) (run plan k n r)
-  run-twin k m n r ring3 on e g =
-      let a = audit-tables m r e in
-      rw (run-sound plan k m r (a .0), run-sound plan k n r (sym (sound-same m n r (g .size)) ∙ a .0))
-      (steps-twin k m n r r (r .control) refl refl g (record { safe = a .1; on = on; ring3 = eq-eqb _ _ ring3 }))
+pub confined : (m n : Mem) (r : Cpu) → Twins r m n → Confined m (r .control)
+confined m n r t = record { safe = audit-tables m r (t .safe) .1; on = t .on; ring3 = eq-eqb _ _ (t .ring3) }
+
+pub run-hides : (plan : Planner) → Hides (run plan)
+run-hides plan k m n r t =
+    let g : Agree (Shown m (r .control)) m n = t .agree in
+    rw (run-sound plan k m r (t .isSound), run-sound plan k n r (sym (sound-same m n r (g .size)) ∙ t .isSound))
+    (steps-twin (Shown m (r .control)) plan k m n r r (r .control) refl refl (λ f x. x) g (confined m n r t))

@@ -28,7 +28,7 @@ use Rattle.isolation.proofs.Kept.{run-sound}
 
 -- ---- maps that say the same have the same frames
 
-same-sym : (c : Control) (m n : Mem) → SameMaps c m n → SameMaps c n m
+pub same-sym : (c : Control) (m n : Mem) → SameMaps c m n → SameMaps c n m
 same-sym c m n s = record {
   size = sym (s .size);
   dirs = λ d h. sym (s .dirs d h);
@@ -223,6 +223,10 @@ steps-sound plan (suc n) m r e =
     onward-sound _ (step plan m r) _ h (steps-sound plan n _ _ h)
 
 -- ---- demand 3
+
+pub run-held : (plan : Planner) (n : ℕ) (m : Mem) (r : Cpu) → sound m r ≡ true → Confined m (r .control)
+    → Held m (r .control) (run plan n m r .last)
+run-held plan n m r e u = rw (run-sound plan n m r e) (steps-held plan n m r (r .control) refl u)
 
 pub run-guarded : (plan : Planner) (n : ℕ) (m : Mem) (r : Cpu)
     → r .control .ring ≡ 3 → paging (r .control) ≡ true → audit m r ≡ Safe → Guarded m r (run plan n m r .last)

@@ -1,0 +1,4 @@
+pub mod Worked
+pub mod Maps
+pub mod Secrets
+pub mod OtherView

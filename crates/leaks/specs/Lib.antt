@@ -1,0 +1,3 @@
+pub mod Guest
+pub mod OtherView
+pub mod Claims
