@@ -34,7 +34,7 @@ Covers frames m c = (f : ℕ) → Shown m c f → frames f
 
 pub shown-back : (c : Control) (m n : Mem) → SameMaps c m n → (f : ℕ) → Shown n c f → Shown m c f
 shown-back c m n s f (asTable t) = asTable (table-back c m n s f t)
-shown-back c m n s f (asReadable u) = asReadable (u .0, mapped-back c m n s (u .0) f (u .1))
+shown-back c m n s f (asReadable u) = asReadable (u .0, mapped-back c m n s _ f (u .1))
 
 module _ (frames : ℕ → Type 0) (c : Control) (m n : Mem) (covers : Covers frames m c) (g : Agree frames m n) where
   table-byte : (i : ℕ) → TableFrame m c (i / 4096) → at m i ≡ at n i

@@ -43,6 +43,12 @@ module _ (m n : Mem) (r : Cpu) where
       }
 
 module _ (m n : Mem) (r : Cpu) (t : Twins r m n) where
+  -- a host may set other registers, and twins stay twins
+  pub twins-other : (r′ : Cpu) → sound m r′ ≡ true → r .control ≡ r′ .control → Twins r′ m n
+  twins-other r′ e q =
+      let safe′ : audit m r′ ≡ Safe = tables-audit m r′ e (rw q at (audit-tables m r (t .safe) .1)) in
+      twins-of m n r′ (rw q at (t .ring3)) (rw q at (t .on)) safe′ (rw q at (t .agree))
+
   pub twins-turned : Twins r n m
   twins-turned =
       let g : Agree (Shown m (r .control)) m n = t .agree in
@@ -68,17 +74,16 @@ module _ (m : Mem) (c : Control) (on : paging c ≡ true) (ring3 : user c ≡ tr
   unfolding translate reach rights ask
   reaches rw′ l a b z e = rw (on, e, ring3, z, lt-ltb (f * 4096 + 0) (length m) (omega arith))
 
-  pub readable-means : UserReadable m c f ↔ Reads m c f
-  readable-means = (there, λ x. back (x .0) (x .1) (x .2) (x .3))
-    where
-      there : UserReadable m c f → Reads m c f
-      there u =
-          let g : MappedFrame m c (u .0) f = u .1 in
-          let l : ℕ = g .dir * 4194304 + g .tab * 4096 in
-          let hd : dirIndex l ≡ g .dir = omega (arith, g .dir-small, g .tab-small) in
-          let ht : tabIndex l ≡ g .tab = omega (arith, g .tab-small) in
-          let e : pageOf m c l ≡ Mapped true (u .0) f (g .dir-slot) (g .tab-slot) = rw (hd, ht) (g .maps) in
-          (l, f * 4096 + 0, reaches (u .0) l _ _ (omega arith) e, omega arith)
+  reads : (rw′ : Bool) → MappedFrame m c rw′ f → Reads m c f
+  reads rw′ g =
+      let l : ℕ = g .dir * 4194304 + g .tab * 4096 in
+      let hd : dirIndex l ≡ g .dir = omega (arith, g .dir-small, g .tab-small) in
+      let ht : tabIndex l ≡ g .tab = omega (arith, g .tab-small) in
+      let e : pageOf m c l ≡ Mapped true rw′ f (g .dir-slot) (g .tab-slot) = rw (hd, ht) (g .maps) in
+      (l, f * 4096 + 0, reaches rw′ l _ _ (omega arith) e, omega arith)
 
-      back : (l p : ℕ) → translate m c false l ≡ At p → p / 4096 ≡ f → UserReadable m c f
-      back l p e q = let t = translate-mapped m c on ring3 false l p e in (t .0, rw q at (t .1))
+  readable : (l p : ℕ) → translate m c false l ≡ At p → p / 4096 ≡ f → UserReadable m c f
+  readable l p e q = let t = translate-mapped m c on ring3 false l p e in (t .0, rw q at (t .1))
+
+  pub readable-means : UserReadable m c f ↔ Reads m c f
+  readable-means = (λ u. reads _ (u .1), λ x. readable (x .0) (x .1) (x .2) (x .3))

@@ -11,6 +11,10 @@ use Rattle.machine.specs.Paging.{View, view}
 use Rattle.machine.specs.Run.{Outcome, End, still, checked, onward}
 use Rattle.phases.specs.Step.{micro32}
 
+-- with the kernel's eyes
+abbrev pub asKernel : Control → Control
+asKernel c = record { cr0 = c .cr0; cr2 = c .cr2; cr3 = c .cr3; ring = 0 }
+
 -- a step and a run as crates/machine/specs/Run.antt has them, with the view that is given
 module _ (look : Mem → Control → View) where
   unfoldable pub stepBy : Mem → Cpu → Outcome
@@ -22,10 +26,6 @@ module _ (look : Mem → Control → View) where
 
   unfoldable pub runBy : ℕ → Mem → Cpu → End
   runBy n m r = elim (sound m r) [ true ↦ stepsBy n m r | false ↦ record { count = 0; last = still BadRecord m r } ]
-
--- the kernel's eyes
-abbrev pub asKernel : Control → Control
-asKernel c = record { cr0 = c .cr0; cr2 = c .cr2; cr3 = c .cr3; ring = 0 }
 
 -- a wrong view: whoever reads may read what ring 0 may. Writes are asked for as before
 unfoldable pub openView : Mem → Control → View

@@ -8,12 +8,12 @@ use lib.ListN.{length}
 use Rattle.machine.specs.declared.Control.{Control}
 use Rattle.machine.specs.declared.Cpu.{Cpu}
 use Rattle.machine.specs.declared.Reply.the-variants.{Safe}
-use Rattle.machine.specs.Record.{Mem, paging, user}
+use Rattle.machine.specs.Record.{Mem, sound, paging, user}
 use Rattle.machine.specs.Audit.{audit}
 use Rattle.machine.specs.Run.{run}
 use Rattle.isolation.specs.Twins.{UserReadable, Reads, Shown, Agree, Twins, Hides}
 use Rattle.isolation.proofs.Noninterference.{run-hides}
-use Rattle.isolation.proofs.Twins.{twins-of, twins-turned, twins-again, readable-means}
+use Rattle.isolation.proofs.Twins.{twins-of, twins-other, twins-turned, twins-again, readable-means}
 use Rattle.phases.specs.Step.{micro32}
 
 -- twins give the same reply, count and record after a run of any budget, and memories that agree again on those frames
@@ -24,6 +24,10 @@ records-hidden = run-hides micro32
 pub still-twins : (budget : ℕ) (m n : Mem) (r : Cpu) → Twins r m n
     → Twins (run micro32 budget m r .last .cpu) (run micro32 budget m r .last .mem) (run micro32 budget n r .last .mem)
 still-twins budget m n r t = twins-again m n r t micro32 budget
+
+-- also with other registers, where the control registers and the ring are the same: a host that goes on behind an interrupt sets EIP
+pub twins-with : (m n : Mem) (r r′ : Cpu) → Twins r m n → sound m r′ ≡ true → r .control ≡ r′ .control → Twins r′ m n
+twins-with m n r r′ t = twins-other m n r t r′
 
 -- ---- what the words mean
 
