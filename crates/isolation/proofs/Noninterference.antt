@@ -1,6 +1,6 @@
 -- Two memories that agree on what ring 3 is shown: its runs cannot tell them apart, and leave two that agree again.
 -- Assumes nothing.
-use Prim.Native.Nat.{ℕ, zero, suc, _+_, _*_, _/_, _%_, _<_}
+use Prim.Native.Nat.{ℕ, zero, suc, _+_, _/_, _%_, _<_}
 use mathlib.Core.Path.{_≡_, refl, sym, ap, _∙_, subst, fun-ext}
 use mathlib.Core.Bool.{Bool, true, false, cond}
 use mathlib.Core.List.{List, [], _∷_, _++_}
@@ -11,20 +11,18 @@ use lib.Seq.{getD-set-same, getD-set-other, set-out}
 use borrow.Author.Tests.{eq-eqb}
 use Rattle.machine.specs.declared.Control.{Control}
 use Rattle.machine.specs.declared.Cpu.{Cpu}
-use Rattle.machine.specs.declared.Reply.the-variants.{Safe}
 use Rattle.machine.specs.Record.{Mem, at, paging, user, iopl, soundAt, sound, coreOf}
 use Rattle.machine.specs.Replies.{isDone}
 use Rattle.machine.specs.Paging.{Translation, At, No, translate, Byte, seen, View, view}
 use Rattle.machine.specs.Commit.{Patch, patch, patches, Touch, Store, marksOf, ifAt, marks, stored, touched, written, commit}
-use Rattle.machine.specs.Audit.{audit}
 use Rattle.machine.specs.Run.{Plan, Finish, Stop, Planner, Outcome, settle, End, onward, checked, step, steps, run}
-use Rattle.isolation.specs.Guarded.{TableFrame, MappedFrame}
+use Rattle.isolation.specs.Guarded.{TableFrame}
 use Rattle.isolation.specs.Twins.{Shown, asTable, asReadable, Agree, Twins, SameEnd, Hides}
-use Rattle.isolation.proofs.Same.{SameMaps, pageOf-same, translate-same, tables-same}
-use Rattle.isolation.proofs.Audited.{audit-tables, tables-audit}
+use Rattle.isolation.proofs.Same.{SameMaps, pageOf-same, translate-same}
+use Rattle.isolation.proofs.Audited.{audit-tables}
 use Rattle.isolation.proofs.Isolation.{bytes-same, translate-mapped, patches-length}
 use Rattle.isolation.proofs.Kept.{run-sound}
-use Rattle.isolation.proofs.Ring3.{Confined, confined-on, Held, step-held, run-held, run-guarded, same-sym, table-back, mapped-back}
+use Rattle.isolation.proofs.Ring3.{Confined, confined-on, Held, step-held, table-back, mapped-back}
 
 -- ---- the views are equal
 

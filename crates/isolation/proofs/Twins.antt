@@ -1,9 +1,9 @@
 -- What makes twins: less than their record names, either one first, and a run leaves twins again. And what is user-readable is what ring 3 reads.
 -- Assumes nothing.
 use Prim.Native.Nat.{ℕ, _+_, _*_, _/_, _<_}
-use mathlib.Core.Path.{_≡_, refl, sym, ap, _∙_}
+use mathlib.Core.Path.{_≡_, sym, ap, _∙_}
 use mathlib.Core.Logic.{_↔_}
-use mathlib.Core.Bool.{Bool, true, false, cond}
+use mathlib.Core.Bool.{Bool, true, false}
 use native.Mathlib.Omega.{arith}
 use lib.ListN.{length}
 use borrow.Author.Tests.{lt-ltb}
@@ -11,7 +11,7 @@ use Rattle.machine.specs.declared.Control.{Control}
 use Rattle.machine.specs.declared.Cpu.{Cpu}
 use Rattle.machine.specs.declared.Reply.the-variants.{Safe}
 use Rattle.machine.specs.Record.{Mem, sound, paging, user}
-use Rattle.machine.specs.Paging.{Mapped, At, dirIndex, tabIndex, offset, pageOf, ask, exists, rights, reach, translate}
+use Rattle.machine.specs.Paging.{Mapped, At, dirIndex, tabIndex, offset, pageOf, ask, rights, reach, translate}
 use Rattle.machine.specs.Audit.{audit}
 use Rattle.machine.specs.Run.{Planner, Outcome, run}
 use Rattle.isolation.specs.Guarded.{MappedFrame}
@@ -19,7 +19,7 @@ use Rattle.isolation.specs.Twins.{UserReadable, Reads, Shown, Agree, Twi
 use Rattle.isolation.proofs.Same.{SameMaps, tables-same}
 use Rattle.isolation.proofs.Audited.{audit-tables, tables-audit}
 use Rattle.isolation.proofs.Isolation.{translate-mapped}
-use Rattle.isolation.proofs.Ring3.{Held, run-held, run-guarded, same-sym}
+use Rattle.isolation.proofs.Ring3.{Held, run-held, run-guarded}
 use Rattle.isolation.proofs.Noninterference.{shown-back, agree-same, sound-same, confined, run-hides}
 
 module _ (m n : Mem) (r : Cpu) where

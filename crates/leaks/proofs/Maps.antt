@@ -1,18 +1,17 @@
 -- What the guest's maps say, whatever the records hold: entry 0 of the directory and entries 0 and 1 of its table, and no other.
 -- Assumes nothing.
-use Prim.Native.Nat.{ℕ, zero, suc, _+_, _*_, _-_, _/_, _<_, _≤_}
+use Prim.Native.Nat.{ℕ, zero, suc, _+_, _*_, _-_, _<_, _≤_}
 use mathlib.Core.Path.{_≡_, refl, sym, ap, _∙_}
 use mathlib.Core.Bool.{Bool, true, false, false≢true}
 use mathlib.Core.List.{List, [], _∷_, _++_}
-use mathlib.Core.Logic.{_≢_, _⊎_, inl, inr}
+use mathlib.Core.Logic.{_≢_}
 use native.Mathlib.Omega.{arith}
 use native.Mathlib.Numerals.{unary-clauses}
 use native.Mathlib.Decide.{ℕ-discrete}
 use lib.ListN.{length, length-append, length-replicate, replicate, List·getD-append, List·getD-eq-default}
 use lib.Seq.{getD-append-add}
-use borrow.Author.Tests.{lt-ltb}
 use Rattle.machine.specs.Record.{Mem, at}
-use Rattle.machine.specs.Paging.{Entry, Gone, Names, entryOf, dwordAt, slot, entry, Page, Absent, Mapped, within, leaf, under, pageAt}
+use Rattle.machine.specs.Paging.{Gone, Names, entryOf, dwordAt, slot, entry, Absent, Mapped, leaf, under, pageAt}
 use Rattle.isolation.proofs.Isolation.{within-mapped}
 use Rattle.leaks.specs.Guest.{frame, directory, table, program, shown, memory}
 

@@ -2,7 +2,7 @@
 -- Assumes nothing.
 use Prim.Native.Nat.{ℕ, zero, suc}
 use mathlib.Core.Path.{_≡_, refl, sym, ap, _∙_, subst, fun-ext}
-use mathlib.Core.Bool.{Bool, true, false}
+use mathlib.Core.Bool.{true, false}
 use native.Mathlib.Omega.{arith}
 use Rattle.machine.specs.declared.Cpu.{Cpu}
 use Rattle.machine.specs.declared.Reply.the-variants.{BadRecord}
@@ -14,7 +14,7 @@ use Rattle.isolation.specs.Twins.{Hides}
 use Rattle.isolation.proofs.Noninterference.{run-hides}
 use Rattle.phases.specs.Step.{micro32}
 use Rattle.leaks.specs.Guest.{memory, user}
-use Rattle.leaks.specs.OtherView.{stepBy, stepsBy, runBy, openView}
+use Rattle.leaks.specs.OtherView.{stepBy, stepsBy, runBy}
 use Rattle.leaks.specs.Claims.{OwnView, Hidden, Leaks, leaking}
 use Rattle.leaks.proofs.Worked.{worked}
 use Rattle.leaks.proofs.Secrets.{secrets}

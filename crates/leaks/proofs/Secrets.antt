@@ -1,21 +1,20 @@
 -- Whatever the records begin with, the guest's memories are twins. Assumes nothing.
-use Prim.Native.Nat.{ℕ, _*_, _/_, _<_, _≤_}
-use mathlib.Core.Path.{_≡_, refl, sym, ap, _∙_}
+use Prim.Native.Nat.{ℕ, _/_, _<_, _≤_}
+use mathlib.Core.Path.{_≡_, refl, sym, _∙_}
 use mathlib.Core.Bool.{Bool, true}
 use native.Mathlib.Omega.{arith}
 use native.Mathlib.Decide.{ℕ-discrete}
-use lib.ListN.{length}
 use Rattle.machine.specs.declared.Control.{Control}
 use Rattle.machine.specs.declared.Reply.the-variants.{Safe}
-use Rattle.machine.specs.Record.{Mem, at, soundAt, sound}
+use Rattle.machine.specs.Record.{at, soundAt, sound}
 use Rattle.machine.specs.Paging.{Gone, Names, entry}
 use Rattle.machine.specs.Audit.{audit}
 use Rattle.isolation.specs.Guarded.{TableFrame, directory, table, MappedFrame}
 use Rattle.isolation.specs.Answers.{SafeTables}
-use Rattle.isolation.specs.Twins.{Shown, asTable, asReadable, Agree, Twins}
+use Rattle.isolation.specs.Twins.{Shown, asTable, asReadable, Agree}
 use Rattle.isolation.proofs.Audited.{audit-safe}
 use Rattle.isolation.proofs.Twins.{twins-of}
-use Rattle.leaks.specs.Guest.{memory, shown, user}
+use Rattle.leaks.specs.Guest.{memory, user}
 use Rattle.leaks.specs.Claims.{Secrets}
 use Rattle.leaks.proofs.Maps.{memory-length, shown-at, the-table, no-table, page-2}
 
