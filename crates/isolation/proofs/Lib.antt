@@ -1,5 +1,6 @@
 pub mod Same
 pub mod Audited
+pub mod Entries
 pub mod Isolation
 pub mod Kept
 pub mod Ring3

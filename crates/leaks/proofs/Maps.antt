@@ -6,12 +6,12 @@ use mathlib.Core.Bool.{Bool, true, false, false≢true}
 use mathlib.Core.List.{List, [], _∷_, _++_}
 use mathlib.Core.Logic.{_≢_}
 use native.Mathlib.Omega.{arith}
-use native.Mathlib.Numerals.{unary-clauses}
 use native.Mathlib.Decide.{ℕ-discrete}
 use lib.ListN.{length, length-append, length-replicate, replicate, List·getD-append, List·getD-eq-default}
 use lib.Seq.{getD-append-add}
-use Rattle.machine.specs.Record.{Mem, at}
-use Rattle.machine.specs.Paging.{Gone, Names, entryOf, dwordAt, slot, entry, Absent, Mapped, leaf, under, pageAt}
+use Rattle.machine.specs.Record.{at}
+use Rattle.machine.specs.Paging.{dwordAt, Gone, Names, entryOf, slot, entry, Mapped, leaf, under, pageAt}
+use Rattle.isolation.proofs.Entries.{dword-same, zeros-gone, absent-mapped}
 use Rattle.isolation.proofs.Isolation.{within-mapped}
 use Rattle.leaks.specs.Guest.{frame, directory, table, program, shown, memory}
 
@@ -66,45 +66,44 @@ table-at k i h =
 
 -- ---- the entries
 
-gone : (m : Mem) (a : ℕ) → ((j : ℕ) → j < 4 → at m (a + j) ≡ 0) → entryOf (dwordAt m a) ≡ Gone
-unfolding entryOf
-gone m a zero′ =
-    let low : at m a ≡ 0 = simp unary-clauses at (zero′ 0 (omega arith)) in
-    ap entryOf (λ i. low i + 256 * zero′ 1 (omega arith) i + 65536 * zero′ 2 (omega arith) i + 16777216 * zero′ 3 (omega arith) i)
-
-past : (bytes : List ℕ) (i : ℕ) → length bytes ≤ i → at bytes i ≡ 0
-past bytes i h = List·getD-eq-default bytes 0 h
-
-absent-mapped : (us rw′ : Bool) (f a b : ℕ) → Absent ≡ Mapped us rw′ f a b → ⊥
-absent-mapped us rw′ f a b e = let z : _≡_ {A = ℕ} 0 1 = cc in omega arith
-
 -- the frame of a page that is the user's
 leaf-frame : (us′ rw″ rw′ : Bool) (g f a b x y : ℕ) → leaf true true x y (Names us′ rw″ g) ≡ Mapped true rw′ f a b → (us′ ≡ true) × (g ≡ f)
 unfolding leaf
 leaf-frame us′ rw″ rw′ g f a b x y e = (cc, cc)
 
+past-gone : (bytes : List ℕ) (a : ℕ) → length bytes ≤ a → entryOf (dwordAt bytes a) ≡ Gone
+past-gone bytes a h = zeros-gone bytes a (λ j l. List·getD-eq-default bytes 0 (omega arith))
+
+-- the entries that are written out
+listed-table : entryOf (dwordAt directory 0) ≡ Names true true 1
+unfolding entryOf
+listed-table = refl
+
+listed-pages : (entryOf (dwordAt table 0) ≡ Names true true 2) × (entryOf (dwordAt table 4) ≡ Names false true 3)
+unfolding entryOf
+listed-pages = (refl, refl)
+
 module _ (k : ℕ) where
+  -- an entry of the directory or the table is the one of its bytes
+  directory-entry : (d : ℕ) → d < 1024 → entry (memory k) 0 d ≡ entryOf (dwordAt directory (slot 0 d))
+  directory-entry d h = ap entryOf (dword-same (memory k) directory _ _ (λ j l. directory-at k (slot 0 d + j) (omega arith)))
+
+  table-entry : (t : ℕ) → t < 1024 → entry (memory k) 1 t ≡ entryOf (dwordAt table (t * 4))
+  table-entry t h = ap entryOf (dword-same (memory k) table _ _ (λ j l.
+      let e : slot 1 t + j ≡ 4096 + (t * 4 + j) = omega arith in
+      ap (at (memory k)) e ∙ table-at k (t * 4 + j) (omega arith)))
+
   pub the-table : entry (memory k) 0 0 ≡ Names true true 1
-  unfolding entryOf frame shown memory
-  the-table = refl
+  the-table = directory-entry 0 (omega arith) ∙ listed-table
 
   pub no-table : (d : ℕ) → d ≢ 0 → d < 1024 → entry (memory k) 0 d ≡ Gone
-  no-table d o h = gone (memory k) (slot 0 d) byte
-    where
-      byte : (j : ℕ) → j < 4 → at (memory k) (slot 0 d + j) ≡ 0
-      byte j l = directory-at k (slot 0 d + j) (omega arith) ∙ past directory (slot 0 d + j) (omega arith)
+  no-table d o h = directory-entry d h ∙ past-gone directory (slot 0 d) (omega arith)
 
   the-pages : (entry (memory k) 1 0 ≡ Names true true 2) × (entry (memory k) 1 1 ≡ Names false true 3)
-  unfolding entryOf frame shown memory
-  the-pages = (refl, refl)
+  the-pages = (table-entry 0 (omega arith) ∙ listed-pages .0, table-entry 1 (omega arith) ∙ listed-pages .1)
 
   no-page : (t : ℕ) → t ≢ 0 → t ≢ 1 → t < 1024 → entry (memory k) 1 t ≡ Gone
-  no-page t o o′ h = gone (memory k) (slot 1 t) byte
-    where
-      byte : (j : ℕ) → j < 4 → at (memory k) (slot 1 t + j) ≡ 0
-      byte j l =
-          let e : slot 1 t + j ≡ 4096 + (t * 4 + j) = omega arith in
-          ap (at (memory k)) e ∙ table-at k (t * 4 + j) (omega arith) ∙ past table (t * 4 + j) (omega arith)
+  no-page t o o′ h = table-entry t h ∙ past-gone table (t * 4) (omega arith)
 
   -- ---- the pages
 

@@ -7,11 +7,12 @@ use native.Mathlib.Decide.{ℕ-discrete}
 use Rattle.machine.specs.declared.Control.{Control}
 use Rattle.machine.specs.declared.Reply.the-variants.{Safe}
 use Rattle.machine.specs.Record.{at, soundAt, sound}
-use Rattle.machine.specs.Paging.{Gone, Names, entry}
+use Rattle.machine.specs.Paging.{Names, entry}
 use Rattle.machine.specs.Audit.{audit}
 use Rattle.isolation.specs.Guarded.{TableFrame, directory, table, MappedFrame}
 use Rattle.isolation.specs.Answers.{SafeTables}
 use Rattle.isolation.specs.Twins.{Shown, asTable, asReadable, Agree}
+use Rattle.isolation.proofs.Entries.{gone-names}
 use Rattle.isolation.proofs.Audited.{audit-safe}
 use Rattle.isolation.proofs.Twins.{twins-of}
 use Rattle.leaks.specs.Guest.{memory, user}
@@ -20,9 +21,6 @@ use Rattle.leaks.proofs.Maps.{memory-length, shown-at, the-table, no-ta
 
 abbrev c : Control
 c = user .control
-
-gone-names : (us rw′ : Bool) (f : ℕ) → Gone ≡ Names us rw′ f → ⊥
-gone-names us rw′ f e = let z : _≡_ {A = ℕ} 0 1 = cc in omega arith
 
 named-frame : (us rw′ us′ rw″ : Bool) (f g : ℕ) → Names us rw′ f ≡ Names us′ rw″ g → f ≡ g
 named-frame us rw′ us′ rw″ f g e = cc

@@ -18,9 +18,9 @@ directory = 0x07 ∷ 0x10 ∷ 0x00 ∷ 0x00 ∷ []
 abbrev pub table : List ℕ
 table = 0x07 ∷ 0x20 ∷ 0x00 ∷ 0x00 ∷ 0x03 ∷ 0x30 ∷ 0x00 ∷ 0x00 ∷ []
 
--- frame 2: INC BYTE [10h]; MOV AL,[1000h]
+-- frame 2: INC BYTE [EBX]; MOV AL,[ECX]
 abbrev pub program : List ℕ
-program = 0xfe ∷ 0x05 ∷ 0x10 ∷ 0x00 ∷ 0x00 ∷ 0x00 ∷ 0xa0 ∷ 0x00 ∷ 0x10 ∷ 0x00 ∷ 0x00 ∷ []
+program = 0xfe ∷ 0x03 ∷ 0x8a ∷ 0x01 ∷ []
 
 unfoldable pub shown : Mem
 shown = frame directory ++ (frame table ++ frame program)
@@ -29,10 +29,10 @@ shown = frame directory ++ (frame table ++ frame program)
 unfoldable pub memory : ℕ → Mem
 memory secret = shown ++ frame (secret ∷ [])
 
--- ring 3, paging on, the directory in frame 0, EIP 0
+-- ring 3, paging on, the directory in frame 0, EIP 0; ECX is 1000h, where the records begin, EBX 10h, in the user's page
 abbrev pub user : Cpu
 user = record {
-  regs = record { e = 0 ∷ 0 ∷ 0 ∷ 0 ∷ 0 ∷ 0 ∷ 0 ∷ 0 ∷ [] };
+  regs = record { e = 0 ∷ 0x1000 ∷ 0 ∷ 0x10 ∷ 0 ∷ 0 ∷ 0 ∷ 0 ∷ [] };
   eip = 0;
   eflags = 2;
   control = record { cr0 = 0x80000001; cr2 = 0; cr3 = 0; ring = 3 };
