@@ -38,7 +38,7 @@ struct micro32_cpu {
 
 /* The replies, by number, and what each carries in a, b and c of the answer. What isn't carried is 0. */
 enum micro32_reply {
-    MICRO32_DONE = 0,          /* nothing: a step was carried out. No call answers with it: a run's count tells of such steps */
+    MICRO32_DONE = 0,          /* nothing: a step was carried out. A run doesn't end with it: its count tells of such steps */
     MICRO32_FAULT = 1,         /* a: vector (0 divide, 6 undefined, 13 protection, 14 page), b: error code, c: linear address; b and c are 0 but for 14 */
     MICRO32_TRAP = 2,          /* a: vector, b: EIP of the next instruction. INT 3 or INT n was met */
     MICRO32_HALT = 3,          /* a: EIP of the next instruction. HLT was met in ring 0 */

@@ -6,7 +6,7 @@ use std::fmt;
 /// What a run or an audit answers.
 #[derive(Clone, Copy, Debug, PartialEq, Eq)]
 pub enum Reply {
-    /// A step was carried out. No call answers with it: a run's count tells of such steps.
+    /// A step was carried out. A run doesn't end with it: its count tells of such steps.
     Done,
     Fault { vector: u32, code: u32, address: u32 },
     Trap { vector: u32, next: u32 },

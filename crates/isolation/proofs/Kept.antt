@@ -10,7 +10,7 @@ use Rattle.machine.specs.declared.Reply.TheVariants.{BadRecord, Spent}
 use Rattle.machine.specs.Record.{Mem, sound}
 use Rattle.machine.specs.Replies.{is_done}
 use Rattle.machine.specs.Run.{Plan, Finish, Stop, Planner, Outcome, settle, End, onward, still, checked, step, steps, run}
-use Rattle.isolation.specs.Kept.{Advance, none, more, Kept, lone}
+use Rattle.isolation.specs.Kept.{Advance, none, more, Kept, Alone, lone}
 
 -- ---- a step
 
@@ -121,28 +121,27 @@ module _ (plan : Planner) where
   unfolding step checked
   step_bad m r e = rw e refl
 
-  pub run_kept : (n : ℕ) (m : Mem) (r : Cpu) → Kept plan n m r (run plan n m r)
-  run_kept n m r = by (sound m r) refl
+  pub run_alone : (n : ℕ) (m : Mem) (r : Cpu) → Alone plan n m r (run plan n m r)
+  run_alone n m r = by (sound m r) refl
     where
-      by : (b : Bool) → sound m r ≡ b → Kept plan n m r (run plan n m r)
+      by : (b : Bool) → sound m r ≡ b → Alone plan n m r (run plan n m r)
       by true e =
           rw (run_sound n m r e)
           record {
-            advance = steps_leads n m r;
-            budget = steps_count n m r;
+            kept = record { advance = steps_leads n m r; budget = steps_count n m r; refused = λ h. absurd (true≢false (sym e ∙ h)) };
             cut = λ l. (steps_end n m r, steps_next n m r (omega arith));
             spent = λ _. steps_spent n m r;
-            refused = λ h. absurd (true≢false (sym e ∙ h));
           }
       by false e =
           rw (run_bad n m r e)
           record {
-            advance = none;
-            budget = omega arith;
+            kept = record { advance = none; budget = omega arith; refused = λ h. refl };
             cut = λ _. (refl, step_bad m r e);
             spent = λ h. absurd (true≢false (sym h ∙ e));
-            refused = λ h. refl;
           }
+
+  pub run_kept : (n : ℕ) (m : Mem) (r : Cpu) → Kept plan n m r (run plan n m r)
+  run_kept n m r = (run_alone n m r).kept
 
   -- ---- no other end is kept
 
@@ -159,12 +158,12 @@ module _ (plan : Planner) where
       rw d (ap (λ (e : End). record { count = suc e.count; last = e.last })
       (steps_are k n _ m' _ r' q a (omega arith) (λ h. cut (omega arith)) (λ h. spent (omega arith))))
 
-  pub kept_alone : (n : ℕ) (m : Mem) (r : Cpu) (e : End) → Kept plan n m r e → e ≡ run plan n m r
+  pub kept_alone : (n : ℕ) (m : Mem) (r : Cpu) (e : End) → Alone plan n m r e → e ≡ run plan n m r
   kept_alone n m r e k = by (sound m r) refl
     where
       by : (b : Bool) → sound m r ≡ b → e ≡ run plan n m r
-      by true h = steps_are e.count n m _ r _ _ k.advance k.budget k.cut (k.spent h) ∙ sym (run_sound n m r h)
-      by false h = k.refused h ∙ sym (run_bad n m r h)
+      by true h = steps_are e.count n m _ r _ _ k.kept.advance k.kept.budget k.cut (k.spent h) ∙ sym (run_sound n m r h)
+      by false h = k.kept.refused h ∙ sym (run_bad n m r h)
 
   -- ---- Done ends no run
 

@@ -1,4 +1,4 @@
--- What demand 1 claims of a run: its Done steps stand, what ended it changed nothing, and it ended no sooner and with no other reply than it must.
+-- What demand 1 claims of a run: its Done steps lead to where it ends, and what ended it adds nothing.
 -- Assumes nothing.
 use Rattle.std.specs.Prelude.{ℕ, suc, ◌<◌, ◌≤◌, ◌≡◌, true, false}
 use Rattle.machine.specs.declared.Cpu.{Cpu}
@@ -13,17 +13,19 @@ pub data Advance (plan : Planner) : ℕ → Mem → Cpu → Mem → Cpu → Type
   more : {k : ℕ} {m m' : Mem} {r r' : Cpu} → is_done (step plan m r).reply ≡ true
       → Advance plan k (step plan m r).mem (step plan m r).cpu m' r' → Advance plan (suc k) m r m' r'
 
--- demand 1 about a run of at most n steps from memory m and record r, and its end; "that step" is the run's last, refused one
+-- demand 1 about a run of at most n steps from memory m and record r, and its end
 pub record Kept (plan : Planner) (n : ℕ) (m : Mem) (r : Cpu) (e : End) : Type 0 where
-  -- its Done steps stand, and nothing beside them
   pub advance : Advance plan e.count m r e.last.mem e.last.cpu
   pub budget : e.count ≤ n
+  pub refused : sound m r ≡ false → e ≡ record { count = 0; last = still BadRecord m r }
+
+-- and no other end than the run's has this: it ended no sooner and with no other reply than it must
+pub record Alone (plan : Planner) (n : ℕ) (m : Mem) (r : Cpu) (e : End) : Type 0 where
+  pub kept : Kept plan n m r e
   -- where it was cut short, what it answers is the next step's answer, which is not Done and changes nothing
   pub cut : e.count < n → (is_done e.last.reply ≡ false) × (step plan e.last.mem e.last.cpu ≡ e.last)
   -- where it was not, the budget is used up
   pub spent : sound m r ≡ true → e.count ≡ n → e.last.reply ≡ Spent
-  -- the record is checked first, even at budget 0
-  pub refused : sound m r ≡ false → e ≡ record { count = 0; last = still BadRecord m r }
 
 -- one step, as a run of budget 1 tells it: Done is Spent with count 1
 unfoldable pub lone : Outcome → End

@@ -1,2 +1,3 @@
 mod Passed
 mod Runs
+mod Fresh

@@ -1,4 +1,4 @@
--- What a run tells its caller: the count of Done steps, the reply by its number and values, the record, and every byte of memory.
+-- What a call tells its caller: the reply by its number and values, the record, every byte of memory, and for a run the count.
 -- Assumes nothing.
 use Rattle.std.specs.Prelude.{ℕ}
 use Rattle.machine.specs.declared.Cpu.{Cpu}
@@ -15,6 +15,7 @@ pub record Told : Type 0 where
 abbrev pub telling : Reply → Cpu → Mem → Told
 telling q r m = record { reply = numbered q; cpu = r; mem = m }
 
+-- what a step's definition tells
 abbrev pub told : Outcome → Told
 told o = telling o.reply o.cpu o.mem
 

@@ -1,16 +1,17 @@
-// Micro32: run and audit, by value and for a host in C or Rust. No caller checks anything first.
+// Micro32: step, run and audit, and the last two for a host in C or Rust. No caller checks anything first.
 ghost use Rattle.std.specs.Prelude.{◌≡◌, true};
 ghost use Rattle.machine.specs.Replies.{numbered};
 ghost use Rattle.machine.specs.Audit.{audit};
 ghost use Rattle.machine.specs.Record.{sound};
-ghost use Rattle.machine.specs.Run.{run};
+ghost use Rattle.machine.specs.Run.{step, run};
 ghost use Rattle.encoding.specs.Encodings.{Classed};
 ghost use Rattle.blocks.specs.Blocks.{Known};
 ghost use Rattle.phases.specs.Step.{micro32};
-ghost use Rattle.micro32.specs.Told.{run_telling, run_told};
+ghost use Rattle.micro32.specs.Told.{telling, told, run_telling, run_told};
 ghost use Rattle.micro32.specs.Boundary.{answer_of, ran_answered};
 
 use machine::{Cpu, Reply};
+use phases::Stepped;
 
 // What a run answers: how many steps were Done, the last reply, and the record after them.
 #[derive(Drop)]
@@ -38,17 +39,26 @@ pub struct Advanced {
     pub answer: Answer,
 }
 
+// One step.
+pub fn step(c: Cpu, mem: &mut [u8]) -> Stepped
+    ensures { telling result.reply result.cpu mem.new ≡ told (step micro32 mem.old c) }
+{
+    let t = encoding::classes();
+    phases::advance(c, mem, &t)
+}
+
 // A run of budget 1 is a complete step. It begins no block, so there is no table of them to clear.
 fn run_once(c: Cpu, mem: &mut [u8], t: &[u8; 512]) -> Ran
-    requires { (Classed t.now) × (sound mem.old c ≡ true) }
+    requires { Classed t.now }
     ensures { run_telling result.count result.reply result.cpu mem.new ≡ run_told (run micro32 1 mem.old c) }
 {
     let s = phases::advance(c, mem, t);
     let k = s.reply;
     let d = s.cpu;
     let Reply::Done = k else {
+        let count: u32 = 0;
         return Ran {
-            count: 0,
+            count,
             reply: k,
             cpu: d,
         };

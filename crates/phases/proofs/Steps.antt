@@ -5,7 +5,7 @@ use mathlib.Core.Bool.{Bool, true, false, ◌&&◌}
 use borrow.Author.Tests.{eqb-true}
 use lib.Dec.{eqb, leb}
 use Rattle.machine.specs.declared.Cpu.{Cpu}
-use Rattle.machine.specs.declared.Reply.TheVariants.{Done}
+use Rattle.machine.specs.declared.Reply.TheVariants.{Done, BadRecord}
 use Rattle.machine.specs.Record.{Mem, sound, sound_at, size_sound, ring_sound, cr0_sound, cr3_sound, flags_sound, with_core}
 use Rattle.machine.specs.Commit.{patches, touched}
 use Rattle.machine.specs.Run.{checked, step}
@@ -35,6 +35,10 @@ sound_size n r e =
     (and_first (size_sound n && ring && cr0 && cr3) (flags_sound r.eflags) e))))))
 
 module _ (m : Mem) (r : Cpu) where
+  pub step_bad : sound m r ≡ false → record { reply = BadRecord; cpu = r; mem = m } ≡ step micro32 m r
+  unfolding step checked
+  step_bad h = rw h
+
   module _ (p : Planned) (good : sound m r ≡ true) (k : PlanOk m r p) where
     from_plan : outcome_of m r p ≡ step micro32 m r
     unfolding step checked

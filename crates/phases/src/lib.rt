@@ -1,6 +1,5 @@
 // One instruction in its phases: it is looked at, then it is refused or carried out whole.
-ghost use Rattle.std.specs.Prelude.{◌≡◌, true, ◌%◌, length};
-ghost use Rattle.machine.specs.Record.{sound};
+ghost use Rattle.std.specs.Prelude.{◌≡◌, ◌%◌, length};
 ghost use Rattle.machine.specs.Run.{step};
 ghost use Rattle.encoding.specs.Encodings.{Classed};
 ghost use Rattle.phases.specs.Step.{micro32};
@@ -113,11 +112,17 @@ fn leave(mem: &mut [u8], p: Planned)
     access::store(mem, b, p.value);
 }
 
-// The complete step from a sound record, by a table of classes that the caller lends.
+// One step, by a table of classes that the caller lends.
 pub fn advance(c: Cpu, mem: &mut [u8], t: &[u8; 512]) -> Stepped
-    requires { (sound mem.old c ≡ true) × (Classed t.now) }
+    requires { Classed t.now }
     ensures { record { reply = result.reply; cpu = result.cpu; mem = mem.new } ≡ step micro32 mem.old c }
 {
+    if !machine::sound(mem.len(), c) {
+        return Stepped {
+            reply: Reply::BadRecord,
+            cpu: c,
+        };
+    }
     let p = plan(c, mem, t);
     if !p.done {
         let q = p.reply;

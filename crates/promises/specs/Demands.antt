@@ -1,4 +1,4 @@
--- The three demands, about the real run and audit. `micro32` is the machine of crates/phases/specs/Step.antt.
+-- The three demands, about the real step, run and audit. `micro32` is the machine of crates/phases/specs/Step.antt.
 -- Assumes nothing.
 use Rattle.std.specs.Prelude.{ℕ, ◌*◌, ◌≤◌, ◌≡◌, true, false, ◌↔◌, ◌⊎◌, length}
 use Rattle.machine.specs.declared.Cpu.{Cpu}
@@ -9,16 +9,16 @@ use Rattle.machine.specs.Replies.{is_done, numbered}
 use Rattle.machine.specs.Paging.{dir_frame}
 use Rattle.machine.specs.Audit.{audit, outside, exposed}
 use Rattle.machine.specs.Run.{End, step, run}
-use Rattle.isolation.specs.Kept.{Kept, lone}
+use Rattle.isolation.specs.Kept.{Kept, Alone, lone}
 use Rattle.isolation.specs.Guarded.{Guarded}
 use Rattle.isolation.specs.Answers.{Lowest, SafeTables}
-use Rattle.isolation.proofs.Kept.{run_kept, kept_alone, run_ends, run_lone}
+use Rattle.isolation.proofs.Kept.{step_still, run_kept, kept_alone, run_ends, run_lone}
 use Rattle.isolation.proofs.Ring3.{run_guarded}
 use Rattle.isolation.proofs.Audited.{audit_safe, audit_outside, audit_exposed, audit_bad}
 use Rattle.phases.specs.Step.{micro32}
 use Rattle.std.proofs.Common.{arith}
 
--- ---- demand 1: every answer is a numbered one; a run keeps its Done steps, and what ended it changed nothing
+-- ---- demand 1: every answer is a numbered one, and only Done changes anything
 
 pub answer_numbered : (q : Reply) → (numbered q).number ≤ 10
 unfolding numbered
@@ -34,11 +34,15 @@ answer_numbered Safe = omega arith
 answer_numbered (TableOutside i) = omega arith
 answer_numbered (Exposed a) = omega arith
 
+pub step_keeps : (m : Mem) (r : Cpu) → is_done (step micro32 m r).reply ≡ false → ((step micro32 m r).mem ≡ m) × ((step micro32 m r).cpu ≡ r)
+step_keeps m r = step_still micro32 m r
+
+-- a run keeps its Done steps and nothing else
 pub run_keeps : (budget : ℕ) (m : Mem) (r : Cpu) → Kept micro32 budget m r (run micro32 budget m r)
 run_keeps budget m r = run_kept micro32 budget m r
 
 -- and no other end has this, an idle run's neither
-pub only_run_keeps : (budget : ℕ) (m : Mem) (r : Cpu) (e : End) → Kept micro32 budget m r e → e ≡ run micro32 budget m r
+pub only_run_keeps : (budget : ℕ) (m : Mem) (r : Cpu) (e : End) → Alone micro32 budget m r e → e ≡ run micro32 budget m r
 only_run_keeps budget m r e k = kept_alone micro32 budget m r e k
 
 -- Done is what a run counts, and never its answer
@@ -49,7 +53,7 @@ done_counted budget m r = run_ends micro32 budget m r
 pub one_step : (m : Mem) (r : Cpu) → run micro32 1 m r ≡ lone (step micro32 m r)
 one_step m r = run_lone micro32 m r
 
--- ---- demand 2 is the contracts of run and audit (OneReading shows that they leave one answer); what the audit's words mean:
+-- ---- demand 2 is the contracts of step, run and audit (OneReading shows that they leave one answer); what the audit's words mean:
 
 pub safe_means : (m : Mem) (r : Cpu) → audit m r ≡ Safe ↔ ((sound m r ≡ true) × SafeTables m r.control)
 safe_means m r = audit_safe m r

@@ -7,12 +7,12 @@ use Rattle.machine.specs.declared.Reply.{Reply}
 use Rattle.machine.specs.Record.{Mem}
 use Rattle.machine.specs.Replies.{numbered}
 use Rattle.machine.specs.Audit.{audit}
-use Rattle.machine.specs.Run.{run}
+use Rattle.machine.specs.Run.{step, run}
 use Rattle.machine.proofs.Numbers.{numbered_same}
 use Rattle.phases.specs.Step.{micro32}
 use Rattle.micro32.specs.declared.Answer.{Answer}
 use Rattle.micro32.specs.Boundary.{Answered, answer_of, ran_answered}
-use Rattle.micro32.specs.Told.{Told, telling, RunTold, run_telling, run_told}
+use Rattle.micro32.specs.Told.{Told, telling, told, RunTold, run_telling, run_told}
 
 -- equal numbers and values are equal replies
 pub replies_apart : (p q : Reply) → numbered p ≡ numbered q → p ≡ q
@@ -22,6 +22,9 @@ module _ (p q : Reply) (c d : Cpu) (m n : Mem) where
   -- what a contract's answer has: reply, record, memory
   same_told : telling p c m ≡ telling q d n → (p ≡ q) × (c ≡ d) × (m ≡ n)
   same_told e = (numbered_same p q (ap (λ (t : Told). t.reply) e), ap (λ (t : Told). t.cpu) e, ap (λ (t : Told). t.mem) e)
+
+  pub step_once : (x : Mem) (r : Cpu) → telling p c m ≡ told (step micro32 x r) → telling q d n ≡ told (step micro32 x r) → (p ≡ q) × (c ≡ d) × (m ≡ n)
+  step_once x r e f = same_told (e ∙ sym f)
 
   pub run_once : (budget : ℕ) (x : Mem) (r : Cpu) (i j : ℕ) → run_telling i p c m ≡ run_told (run micro32 budget x r) → run_telling j q d n ≡ run_told (run micro32 budget x r)
       → (i ≡ j) × ((p ≡ q) × (c ≡ d) × (m ≡ n))

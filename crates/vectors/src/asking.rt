@@ -1,23 +1,17 @@
-// What is asked of the machine: one step, a run or an audit, on which record and how much memory.
-ghost use Rattle.std.specs.Prelude.{◌≡◌, true};
-ghost use Rattle.machine.specs.Record.{sound};
-
+// What is asked of the machine: a step, a run or an audit, on which record and how much memory.
 use crate::reading::{number, plus, word};
 use cells::dword;
 use machine::{Control, Cpu, Registers, Reply};
 use micro32::Ran;
 
-// One step: a run of budget 1.
 pub const STEP: u32 = 0;
 
 pub const RUN: u32 = 1;
 
 pub const AUDIT: u32 = 2;
 
-// One step by what lies underneath, which no user can call: the complete step, and the quick way.
-pub const COMPLETE: u32 = 3;
-
-pub const QUICK: u32 = 4;
+// A step, asked for as a run of one: it goes the quick way where it can.
+pub const LONE: u32 = 3;
 
 // The count is what a run is to answer; size is the length of the memory that is lent.
 #[derive(Drop)]
@@ -45,11 +39,11 @@ fn control(b: &[u8]) -> Control {
     }
 }
 
-// A generated case asks for one step, on all of memory.
-pub fn generated(b: &[u8]) -> Ask {
+// A generated case asks for a step, on all of memory.
+pub fn generated(b: &[u8], call: u32) -> Ask {
     let control = control(b);
     Ask {
-        call: STEP,
+        call,
         budget: 0,
         count: 0,
         size: 32768,
@@ -100,80 +94,32 @@ pub fn record(b: &[u8], a: Ask) -> Cpu {
     }
 }
 
-// The same by another call.
-pub fn by(a: Ask, call: u32) -> Ask {
-    let control = a.control;
-    Ask {
-        call,
-        budget: a.budget,
-        count: a.count,
-        size: a.size,
-        control,
-    }
-}
-
-// The complete step, told as a run of budget 1 tells it.
-fn complete(c: Cpu, mem: &mut [u8]) -> Ran
-    requires { sound mem.old c ≡ true }
-{
-    let t = encoding::classes();
-    let s = phases::advance(c, mem, &t);
-    let q = s.reply;
-    let d = s.cpu;
+// A run of one step, told as the step's answer.
+fn lone(r: Ran) -> Ran {
+    let d = r.cpu;
+    let q = r.reply;
     match q {
-        Reply::Done => Ran {
-            count: 1,
-            reply: Reply::Spent,
-            cpu: d,
-        },
-        _ => Ran {
-            count: 0,
-            reply: q,
-            cpu: d,
-        },
+        Reply::Spent => {
+            if r.count == 1 {
+                return Ran {
+                    count: 0,
+                    reply: Reply::Done,
+                    cpu: d,
+                };
+            }
+            r
+        }
+        _ => r,
     }
 }
 
-// One step as a longer run makes it: a quick one where there is one, or a complete one.
-fn quick(c: Cpu, mem: &mut [u8]) -> Ran
-    requires { sound mem.old c ≡ true }
-{
-    let t = encoding::classes();
-    let mut g: [u64; 4096] = [0; 4096];
-    let w = swift::dash(c, mem, &t, &mut g, 1);
-    let d = w.cpu;
-    if w.count == 1 {
-        return Ran {
-            count: 1,
-            reply: Reply::Spent,
-            cpu: d,
-        };
-    }
-    complete(d, mem)
-}
-
-// One step by what lies underneath, which takes sound records alone.
-fn underneath(call: u32, c: Cpu, mem: &mut [u8]) -> Ran {
-    if !machine::sound(mem.len(), c) {
-        return Ran {
-            count: 0,
-            reply: Reply::BadRecord,
-            cpu: c,
-        };
-    }
-    if call == QUICK {
-        return quick(c, mem);
-    }
-    complete(c, mem)
-}
-
-// The calls, answered alike: an audit has no count, and leaves the record.
+// The public calls, answered alike: a step and an audit have no count, and an audit leaves the record.
 fn called(call: u32, budget: u32, c: Cpu, mem: &mut [u8]) -> Ran {
-    if call == STEP {
-        return micro32::run(c, mem, 1);
-    }
     if call == RUN {
         return micro32::run(c, mem, budget);
+    }
+    if call == LONE {
+        return lone(micro32::run(c, mem, 1));
     }
     if call == AUDIT {
         let q = micro32::audit(c, mem);
@@ -183,7 +129,14 @@ fn called(call: u32, budget: u32, c: Cpu, mem: &mut [u8]) -> Ran {
             cpu: c,
         };
     }
-    underneath(call, c, mem)
+    let s = micro32::step(c, mem);
+    let q = s.reply;
+    let d = s.cpu;
+    Ran {
+        count: 0,
+        reply: q,
+        cpu: d,
+    }
 }
 
 // Lends the first n bytes of memory, or all.

@@ -1,5 +1,5 @@
-// Runs each case of data/cases and data/directed through the public calls, and one step also through what lies underneath them; compares
-// reply, record and memory, and writes a table by family with a line for each directed case. docs/VECTORS.md says where the results come from.
+// Runs each case of data/cases and data/directed through the public calls, compares reply, record and memory, and writes a table by family
+// with a line for each directed case. docs/VECTORS.md says where the results come from.
 mod asking;
 mod memory;
 mod reading;
@@ -87,32 +87,24 @@ fn clean(asked: bool, mem: &mut Memory) -> bool {
     true
 }
 
-// A case, by every way that it can go: one step also by what lies underneath a run of budget 1.
-fn agrees_each_way(b: &[u8], a: Ask, mem: &mut Memory, want: &mut Memory) -> bool {
-    let same = agrees(b, a, mem, want);
-    if a.call != asking::STEP {
-        return same;
-    }
-    let complete = agrees(b, asking::by(a, asking::COMPLETE), mem, want);
-    let quick = agrees(b, asking::by(a, asking::QUICK), mem, want);
-    same & complete & quick
-}
-
-fn asked(directed: bool, k: Case) -> Ask {
-    let asks = k.asks;
-    let b = k.bytes;
-    if directed {
-        return asking::directed(&asks);
-    }
-    asking::generated(&b)
+// A generated case, by a step and by a run of one.
+fn agrees_twice(b: &[u8], mem: &mut Memory, want: &mut Memory) -> bool {
+    let stepped = agrees(b, asking::generated(b, asking::STEP), mem, want);
+    let ran = agrees(b, asking::generated(b, asking::LONE), mem, want);
+    stepped & ran
 }
 
 // Compares a case. After a directed one, and after every 64th of the others, all memory must be clear again; a byte that is not counts
 // against that case.
 fn judged(directed: bool, turns: u32, k: Case, mem: &mut Memory, want: &mut Memory) -> bool {
+    let asks = k.asks;
     let b = k.bytes;
-    let same = agrees_each_way(&b, asked(directed, k), mem, want);
-    clean(directed | (turns % 64 == 63), mem) & same
+    if directed {
+        let same = agrees(&b, asking::directed(&asks), mem, want);
+        return clean(true, mem) & same;
+    }
+    let same = agrees_twice(&b, mem, want);
+    clean(turns % 64 == 63, mem) & same
 }
 
 // The count with one case more.

@@ -46,14 +46,9 @@ fn numbered(q: Reply) -> Told {
     }
 }
 
-// A case says Done of one step, which a run tells as Spent.
-fn awaited(n: u32) -> u32 {
-    if n == 0 { 7 } else { n }
-}
-
 fn same_reply(b: &[u8], at: u32, q: Reply) -> bool {
     let t = numbered(q);
-    (t.number == awaited(number(b, at)))
+    (t.number == number(b, at))
         & (t.vector == number(b, plus(at, 1)))
         & (t.code == number(b, plus(at, 2)))
         & (t.address == dword(b, plus(at, 3)))
@@ -142,16 +137,14 @@ fn same_record(b: &[u8], at: u32, says: bool, was: Cpu, is: Cpu) -> Place {
     Place { at, same }
 }
 
-// A case says what became of the record after Done and after a run; else it is to be as it was. A step that is Done counts. Answers where the
-// stores begin.
+// A case says what became of the record after Done and after a run; else it is to be as it was. Answers where the stores begin.
 pub fn same_answer(b: &[u8], at: u32, a: Ask, was: Cpu, r: Ran) -> Place {
     let q = r.reply;
     let is = r.cpu;
-    let done = number(b, at) == 0;
-    let p = same_record(b, plus(at, 7), done | (a.call == RUN), was, is);
-    let count = if done { 1 } else { a.count };
+    let says = (number(b, at) == 0) | (a.call == RUN);
+    let p = same_record(b, plus(at, 7), says, was, is);
     Place {
         at: p.at,
-        same: p.same & (r.count == count) & same_reply(b, at, q),
+        same: p.same & (r.count == a.count) & same_reply(b, at, q),
     }
 }
