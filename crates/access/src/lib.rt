@@ -1,4 +1,6 @@
 // What an instruction reads and writes: found on one page or on two before anything is changed; then marks, then stores.
+#![tactic(auto)]
+
 ghost use Rattle.std.specs.Prelude.{◌≡◌, ℕ, ◌+◌, ◌*◌, ◌/◌, ◌%◌, ◌^◌, ◌<◌, ◌≤◌, Bool, true, false, cond, length, set, slice_set};
 ghost use Rattle.machine.specs.Record.{at};
 ghost use Rattle.machine.specs.Commit.{mark, patch, patches};
@@ -9,14 +11,14 @@ use machine::{Control, Reply, Want};
 use paging::{Linear, Marks, Physical, Translated};
 
 // The pages that an access used: the second is None where there is one.
-#[derive(Drop)]
+#[derive(Clone, Copy)]
 pub struct Trail {
     pub first: Marks,
     pub last: Marks,
 }
 
 // Where an access lies: nowhere, one byte, a dword on one page, or its four bytes over two.
-#[derive(Drop)]
+#[derive(Clone, Copy)]
 pub enum Place {
     Nowhere,
     Byte(Physical),
@@ -24,7 +26,7 @@ pub enum Place {
     Across(Physical, Physical, Physical, Physical),
 }
 
-#[derive(Drop)]
+#[derive(Clone, Copy)]
 pub struct Access {
     pub place: Place,
     pub value: u32,
@@ -32,7 +34,7 @@ pub struct Access {
     pub trail: Trail,
 }
 
-#[derive(Drop)]
+#[derive(Clone, Copy)]
 pub enum Located {
     Here(Access),
     No(Reply),

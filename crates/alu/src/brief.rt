@@ -7,14 +7,14 @@ use crate::{Out, Status};
 
 // The carry out of the operation's top place, the carries into its places, and the dword that shows ZF, SF and PF (specs/Brief). All are dwords, so that
 // there is no room between them that would be copied with them.
-#[derive(Drop)]
+#[derive(Clone, Copy)]
 pub struct Brief {
     pub out: u32,
     pub into: u32,
     pub seen: u32,
 }
 
-#[derive(Drop)]
+#[derive(Clone, Copy)]
 pub struct Short {
     pub value: u32,
     pub flags: Brief,

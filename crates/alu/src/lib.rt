@@ -1,4 +1,6 @@
 // Sums, differences and logic with their flags, at 8 and 32 bits.
+#![tactic(auto)]
+
 pub mod brief;
 
 ghost use Rattle.std.specs.Prelude.{◌≡◌, Bool, true, false, ◌+◌, ◌-◌, ◌*◌, ◌/◌, ◌%◌, ◌^◌, ◌<◌, ◌≤◌};
@@ -6,7 +8,7 @@ ghost use Rattle.std.specs.Int.Bits.{bit_and, bit_or, bit_xor};
 ghost use Rattle.alu.specs.Arithmetic.{bit, parity, sum, difference, logic, operation, operate, writes, keep_carry, single, operate_one, signed_byte};
 
 // The six flags that arithmetic sets.
-#[derive(Drop)]
+#[derive(Clone, Copy)]
 pub struct Status {
     pub cf: bool,
     pub pf: bool,
@@ -16,7 +18,7 @@ pub struct Status {
     pub of: bool,
 }
 
-#[derive(Drop)]
+#[derive(Clone, Copy)]
 pub struct Out {
     pub value: u32,
     pub status: Status,

@@ -1,4 +1,6 @@
 // Operations of two operands and of one, shifts, multiplication and division.
+#![tactic(auto)]
+
 ghost use Rattle.std.specs.Prelude.{◌≡◌};
 ghost use Rattle.arithmetic.specs.Arithmetic.{combined, combined_from, deposited, do_combine_to, do_combine_from, do_combine_immediate, do_unary, do_shift, upper, pair, do_multiply, do_divide, do_accumulate, timed, do_multiply_by, do_multiply_into};
 

@@ -1,4 +1,6 @@
 // The audit: do the maps keep the user away from the directory and the tables?
+#![tactic(auto)]
+
 ghost use Rattle.std.specs.Prelude.{◌≡◌, true, false, ◌+◌, ◌*◌, ◌/◌, ◌%◌, ◌<◌, ◌≤◌, length, get_or, set};
 ghost use Rattle.std.proofs.Math.Option.{none};
 ghost use Rattle.machine.specs.Paging.{dword_at, slot, dir_frame};
@@ -8,7 +10,7 @@ ghost use Rattle.audit.specs.Searched.{found_of, with_table, Sized, Clear, Flags
 use machine::{Control, Cpu, Reply};
 
 // What a search finds: the lowest number that passes, if any does.
-#[derive(Drop)]
+#[derive(Clone, Copy)]
 enum Found {
     At(u32),
     Nothing,

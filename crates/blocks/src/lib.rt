@@ -1,5 +1,7 @@
 // A table of blocks: the forms of up to twenty-three instructions that follow one another, kept with the bytes that they were read from: thirty-two, or
 // sixty-four where a form asks for more. Thirty-two numbers for each block: eight with the bytes, how many forms there are, and the forms.
+#![tactic(auto)]
+
 ghost use Rattle.std.specs.Prelude.{◌≡◌, true, cond, ◌+◌, ◌%◌, ◌<◌, ◌≤◌, length, get_or, leb};
 ghost use Rattle.encoding.specs.Encodings.{Classed};
 ghost use Rattle.forms.specs.Forms.{Small};

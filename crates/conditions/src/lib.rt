@@ -1,4 +1,6 @@
 // The sixteen conditions: a constant row for each, read by Jcc and SETcc alike.
+#![tactic(auto)]
+
 ghost use Rattle.std.specs.Prelude.{◌≡◌};
 ghost use Rattle.conditions.specs.Conditions.{holds, row_holds};
 

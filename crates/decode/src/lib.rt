@@ -1,4 +1,6 @@
 // Decoding, byte after byte from EIP, into one uniform Instruction.
+#![tactic(auto)]
+
 ghost use Rattle.std.specs.Prelude.{◌≡◌, ◌%◌, length};
 ghost use Rattle.machine.specs.Paging.{view};
 ghost use Rattle.encoding.specs.Encodings.{Classed};
@@ -10,13 +12,13 @@ use encoding::{Instruction, Operand};
 use fetch::{Code, Fetched};
 use machine::{Control, Reply};
 
-#[derive(Drop)]
+#[derive(Clone, Copy)]
 pub enum Formed {
     Made(Operand, u32),
     Spoilt(Reply),
 }
 
-#[derive(Drop)]
+#[derive(Clone, Copy)]
 pub enum Decoded {
     Ready(Instruction),
     Unready(Reply),

@@ -1,4 +1,6 @@
 // What an opcode is: the table of 512 classes, and the uniform Instruction that decoding makes.
+#![tactic(auto)]
+
 mod opcodes;
 
 ghost use Rattle.std.specs.Prelude.{◌≡◌, cond, ◌<◌};
@@ -105,7 +107,7 @@ pub const INTERRUPT: u32 = 47;
 pub const HALT_HERE: u32 = 48;
 
 // An r/m operand: a register, or memory at base plus index times scale plus displacement, where base or index 8 is none.
-#[derive(Drop)]
+#[derive(Clone, Copy)]
 pub struct Operand {
     pub direct: bool,
     pub register: u32,
@@ -172,7 +174,7 @@ pub const TRAP: u32 = 27;
 
 pub const HALT: u32 = 28;
 
-#[derive(Drop)]
+#[derive(Clone, Copy)]
 pub struct Instruction {
     pub family: u32,
     pub operation: u32,

@@ -1,4 +1,6 @@
 // An instruction in document 01's phases: which accesses it makes, and what it computes of what they find. Memory is never touched here.
+#![tactic(auto)]
+
 ghost use Rattle.std.specs.Prelude.{◌≡◌};
 ghost use Rattle.execute.specs.Execute.{permitted, writes_operand, reads_operand, first, second, compute_arithmetic, compute_move, compute_flow, compute_other, compute};
 

@@ -1,4 +1,6 @@
 // Fetching: the numbers that an instruction's bytes hold, byte after byte from EIP.
+#![tactic(auto)]
+
 ghost use Rattle.std.specs.Prelude.{◌≡◌, ◌+◌, ◌*◌, ◌%◌, ◌<◌, length};
 ghost use Rattle.machine.specs.Paging.{view};
 ghost use Rattle.fetch.specs.Fetch.{signed, fetch_signed, fetch_word, fetch_dword, number};
@@ -8,21 +10,21 @@ use machine::{Control, Reply};
 use paging::{Linear, Physical, Translated};
 
 // Where the code's first byte lies, if its page was reached.
-#[derive(Drop)]
+#[derive(Clone, Copy)]
 pub enum Start {
     Near(Physical),
     Unknown,
 }
 
 // EIP, and where its byte lies.
-#[derive(Drop)]
+#[derive(Clone, Copy)]
 pub struct Code {
     pub eip: u32,
     pub start: Start,
 }
 
 // A number, and how many bytes are fetched by then.
-#[derive(Drop)]
+#[derive(Clone, Copy)]
 pub enum Fetched {
     Got(u32, u32),
     Miss(Reply),

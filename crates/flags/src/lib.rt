@@ -1,4 +1,6 @@
 // CMC CLC STC CLI STI CLD STD, SAHF and LAHF.
+#![tactic(auto)]
+
 ghost use Rattle.std.specs.Prelude.{◌≡◌};
 ghost use Rattle.flags.specs.FlagOperations.{with_carry, changed, do_flag, from_byte, to_byte, do_transfer};
 

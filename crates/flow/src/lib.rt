@@ -1,4 +1,6 @@
 // Jumps, LOOP forms, INT and HLT.
+#![tactic(auto)]
+
 ghost use Rattle.std.specs.Prelude.{◌≡◌, if◌then◌else◌};
 ghost use Rattle.flow.specs.Flow.{jumped, again, counted, looped, do_jump_on, do_jump, do_jump_to, do_loop, do_trap, do_halt};
 

@@ -1,4 +1,6 @@
 // The common encodings in a form that their bytes alone decide, so that they are read once and kept. Whatever is not here is no form.
+#![tactic(auto)]
+
 ghost use Rattle.std.specs.Prelude.{◌≡◌, ◌≢◌, true, ◌||◌, List, ℕ, ◌+◌, ◌/◌, ◌%◌, ◌<◌, ◌≤◌, length, eqb};
 ghost use Rattle.machine.specs.Record.{at, wrap};
 ghost use Rattle.encoding.specs.Encodings.{Classed, class_of};
@@ -7,7 +9,7 @@ ghost use Rattle.forms.specs.Forms.{reg, ReadOk};
 
 // The kind says what it is (specs/Forms, `meant`); the instruction has `length` bytes; a and b are registers; then an immediate, a displacement or
 // the distance of a jump.
-#[derive(Drop)]
+#[derive(Clone, Copy)]
 pub struct Form {
     pub kind: u32,
     pub length: u32,
@@ -18,7 +20,7 @@ pub struct Form {
 
 // A memory operand that is a register and a number beside it: the number, and how many bytes the instruction has up to its immediate; 0 bytes for
 // another operand.
-#[derive(Drop)]
+#[derive(Clone, Copy)]
 struct Near {
     upto: u32,
     number: u32,

@@ -1,4 +1,6 @@
 // Which frames of memory a pass changed, and by what right: a copy of what was there before, and what the maps say.
+#![tactic(auto)]
+
 mod copies;
 mod maps;
 
@@ -8,7 +10,7 @@ pub use maps::{holds_table, is_users};
 
 // A changed frame: the user's own, by the maps; a directory or table with accessed and dirty marks set; one that the kernel wrote, whom
 // the maps need not bind; or none of these.
-#[derive(Drop)]
+#[derive(Clone, Copy)]
 pub enum Kind {
     Same,
     Own,

@@ -1,4 +1,6 @@
 // One quick step: an instruction in its short form, on pages that are kept. Where it cannot go on it changes nothing.
+#![tactic(auto)]
+
 ghost use Rattle.std.specs.Prelude.{◌≢◌, ◌≡◌, true, false, cond, ◌+◌, ◌-◌, ◌*◌, ◌/◌, ◌%◌, ◌<◌, ◌≤◌, length, set, eqb};
 ghost use Rattle.alu.specs.Brief.{status_in, out_in};
 ghost use Rattle.machine.specs.Record.{at};
@@ -17,14 +19,14 @@ use machine::Control;
 use outcome::Fast;
 
 // EIP and the status flags.
-#[derive(Drop)]
+#[derive(Clone, Copy)]
 pub struct Rest {
     pub eip: u32,
     pub flags: Brief,
 }
 
 // What a quick step answers: is it done, do the pages that are kept hold on, and where the run stands.
-#[derive(Drop)]
+#[derive(Clone, Copy)]
 pub struct Swift {
     pub done: bool,
     pub holds: bool,
@@ -32,7 +34,7 @@ pub struct Swift {
 }
 
 // The access of an instruction: is it found; the index in memory and the value there; both operands.
-#[derive(Drop)]
+#[derive(Clone, Copy)]
 struct Sought {
     found: bool,
     at: usize,

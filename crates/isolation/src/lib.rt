@@ -1,1 +1,2 @@
 // No code: the theorems about any set of instructions. specs/ has what is claimed, proofs/ why it holds.
+#![tactic(auto)]

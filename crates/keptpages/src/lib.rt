@@ -1,4 +1,6 @@
 // Pages that can be used with nothing left to mark, for the quick way through a run.
+#![tactic(auto)]
+
 pub mod held;
 
 ghost use Rattle.std.specs.Prelude.{◌≡◌, true, false};
@@ -8,14 +10,14 @@ ghost use Rattle.keptpages.specs.Quiet.{Pairs, passes, usable, KeptOk};
 use machine::Control;
 
 // A byte that may be used as it is: where it lies in memory.
-#[derive(Drop)]
+#[derive(Clone, Copy)]
 pub enum Settled {
     Ready(u32),
     Other,
 }
 
 // The two entries of a page: where they lie, and what they hold.
-#[derive(Drop)]
+#[derive(Clone, Copy)]
 struct Pair {
     pub found: bool,
     pub dir: u32,
@@ -25,7 +27,7 @@ struct Pair {
 }
 
 // A page that is kept: its number (above any page's: none), where it begins in memory, and the frame of its table.
-#[derive(Drop)]
+#[derive(Clone, Copy)]
 pub struct Kept {
     pub page: u32,
     pub base: u32,

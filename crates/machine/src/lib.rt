@@ -1,4 +1,6 @@
 // The record, the replies, and the register file that every write hands back whole.
+#![tactic(auto)]
+
 ghost use Rattle.std.specs.Prelude.{◌≡◌, ℕ, ◌+◌, ◌*◌, ◌/◌, ◌%◌, ◌<◌, ◌≤◌, length, get_or, set};
 ghost use Rattle.machine.specs.Record.{digit, register, with_register, replaced, byte_register, with_byte, read_at, write_at, flags_in, pack, sound_at, core_of, with_core};
 ghost use Rattle.machine.specs.Replies.{is_done};
@@ -6,7 +8,7 @@ ghost use Rattle.machine.specs.Replies.{is_done};
 use alu::Status;
 
 // What a step, a run or an audit answers. `numbered` in specs/Replies gives each its number.
-#[derive(Drop)]
+#[derive(Clone, Copy)]
 pub enum Reply {
     Done,
     Fault(u32, u32, u32),
@@ -23,13 +25,13 @@ pub enum Reply {
 
 // EAX ECX EDX EBX ESP EBP ESI EDI.
 #[repr(C)]
-#[derive(Drop)]
+#[derive(Clone, Copy)]
 pub struct Registers {
     pub e: [u32; 8],
 }
 
 // The flags that instructions read and write. IOPL stays where it is, in EFLAGS.
-#[derive(Drop)]
+#[derive(Clone, Copy)]
 pub struct Flags {
     pub status: Status,
     pub interrupt: bool,
@@ -37,7 +39,7 @@ pub struct Flags {
 }
 
 // All that an instruction can change of the record.
-#[derive(Drop)]
+#[derive(Clone, Copy)]
 pub struct Core {
     pub regs: Registers,
     pub eip: u32,
@@ -46,7 +48,7 @@ pub struct Core {
 
 // What no instruction of the build can change.
 #[repr(C)]
-#[derive(Drop)]
+#[derive(Clone, Copy)]
 pub struct Control {
     pub cr0: u32,
     pub cr2: u32,
@@ -56,7 +58,7 @@ pub struct Control {
 
 // The record: fourteen dwords, in this order for C too.
 #[repr(C)]
-#[derive(Drop)]
+#[derive(Clone, Copy)]
 pub struct Cpu {
     pub regs: Registers,
     pub eip: u32,
@@ -65,7 +67,7 @@ pub struct Cpu {
 }
 
 // An access that an instruction asks for: of a dword (true) or a byte, at a linear address. What is read and written is a Write.
-#[derive(Drop)]
+#[derive(Clone, Copy)]
 pub enum Want {
     Nothing,
     Read(bool, u32),

@@ -1,4 +1,6 @@
 // Micro32: step, run and audit, and the last two for a host in C or Rust. No caller checks anything first.
+#![tactic(auto)]
+
 ghost use Rattle.std.specs.Prelude.{◌≡◌, true};
 ghost use Rattle.machine.specs.Replies.{numbered};
 ghost use Rattle.machine.specs.Audit.{audit};
@@ -14,7 +16,7 @@ use machine::{Cpu, Reply};
 use phases::Stepped;
 
 // What a run answers: how many steps were Done, the last reply, and the record after them.
-#[derive(Drop)]
+#[derive(Clone, Copy)]
 pub struct Ran {
     pub count: u32,
     pub reply: Reply,
@@ -23,7 +25,7 @@ pub struct Ran {
 
 // A reply as a host reads it: its number, the up to three values that it carries (0 where there is none), and a run's count.
 #[repr(C)]
-#[derive(Drop)]
+#[derive(Clone, Copy)]
 pub struct Answer {
     pub number: u32,
     pub a: u32,
@@ -33,7 +35,7 @@ pub struct Answer {
 }
 
 // What a run answers a host, and the record after it.
-#[derive(Drop)]
+#[derive(Clone, Copy)]
 pub struct Advanced {
     pub cpu: Cpu,
     pub answer: Answer,

@@ -1,4 +1,6 @@
 // MOVZX, MOVSX, LEA, XCHG, SETcc, CWDE and CDQ.
+#![tactic(auto)]
+
 ghost use Rattle.std.specs.Prelude.{◌≡◌, ◌<◌};
 ghost use Rattle.machine.specs.Record.{digit};
 ghost use Rattle.conditions.specs.Conditions.{holds};

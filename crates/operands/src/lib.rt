@@ -1,4 +1,6 @@
 // Operands and effects: where an operand lies, what it is worth, what becomes of the record.
+#![tactic(auto)]
+
 ghost use Rattle.std.specs.Prelude.{◌≡◌, ◌<◌, ◌≤◌};
 ghost use Rattle.operands.specs.Operands.{scaled, address, operand_want, operand_value, deposit, lowered, raised, next, target, went, refused, onward, advanced};
 
@@ -7,7 +9,7 @@ use encoding::{Instruction, Operand};
 use machine::{Core, Flags, Registers, Reply, Want};
 
 // What an instruction does: the reply, Done where it is carried out; the core after; the value to store where it writes.
-#[derive(Drop)]
+#[derive(Clone, Copy)]
 pub struct Effect {
     pub reply: Reply,
     pub core: Core,

@@ -1,4 +1,6 @@
 // What comes of an instruction in its short form.
+#![tactic(auto)]
+
 ghost use Rattle.std.specs.Prelude.{◌≡◌, ◌<◌, true, false, slice_index, slice_set};
 ghost use Rattle.machine.specs.Record.{readAt, withRegister, writeAt, replaced};
 ghost use Rattle.products.specs.Products.{product};
@@ -12,7 +14,7 @@ use alu::brief::{Brief, Short};
 // the operation (up to 9 as for two operands, 10 INC, 11 DEC, 12, 13 and 15 shifts, 14 IMUL); a dword's or a byte's; the access (0 none, 1 a read
 // of x, 2 of y, 3 a read-and-write of x, 4 a push, 5 a pop, 6 a return) and its address; the operands; the register that takes the result, 8 for
 // none; the next EIP.
-#[derive(Drop)]
+#[derive(Clone, Copy)]
 pub struct Fast {
     pub taken: bool,
     pub jumps: bool,

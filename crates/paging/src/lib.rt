@@ -1,4 +1,6 @@
 // Linear and physical addresses, and the walk of the pages that leads from one to the other.
+#![tactic(auto)]
+
 ghost use Rattle.std.specs.Prelude.{◌≡◌, Bool, true, false, cond, ℕ, ◌+◌, ◌*◌, ◌/◌, ◌%◌, ◌<◌, ◌≤◌, ◌^◌, length, eqb};
 ghost use Rattle.machine.specs.Record.{at};
 ghost use Rattle.machine.specs.Paging.{dword_at, slot, rights, page_fault};
@@ -6,11 +8,11 @@ ghost use Rattle.paging.specs.Walked.{OnPage, Flat, Walked};
 
 use machine::{Control, Reply};
 
-#[derive(Drop)]
+#[derive(Clone, Copy)]
 pub struct Linear(pub u32);
 
 // Private inside: only the walk and the paging-off conversion of this crate make one.
-#[derive(Drop)]
+#[derive(Clone, Copy)]
 pub struct Physical(u32);
 
 impl Physical {
@@ -22,13 +24,13 @@ impl Physical {
 }
 
 // The entries that a translation went through, directory and table: none with paging off.
-#[derive(Drop)]
+#[derive(Clone, Copy)]
 pub enum Marks {
     None,
     Entries(Physical, Physical),
 }
 
-#[derive(Drop)]
+#[derive(Clone, Copy)]
 pub enum Translated {
     Reached(Physical, Marks),
     Denied(Reply),

@@ -1,4 +1,6 @@
 // One instruction in its phases: it is looked at, then it is refused or carried out whole.
+#![tactic(auto)]
+
 ghost use Rattle.std.specs.Prelude.{◌≡◌, ◌%◌, length};
 ghost use Rattle.machine.specs.Run.{step};
 ghost use Rattle.encoding.specs.Encodings.{Classed};
@@ -10,14 +12,14 @@ use decode::Decoded;
 use machine::{Core, Cpu, Reply};
 
 // What a step answers: the reply, and the record after it.
-#[derive(Drop)]
+#[derive(Clone, Copy)]
 pub struct Stepped {
     pub reply: Reply,
     pub cpu: Cpu,
 }
 
 // What is to be done, once nothing can refuse it any more; or the reply that refused it.
-#[derive(Drop)]
+#[derive(Clone, Copy)]
 pub struct Planned {
     pub done: bool,
     pub reply: Reply,

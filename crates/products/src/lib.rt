@@ -1,4 +1,6 @@
 // MUL, IMUL, DIV and IDIV at 8 and 32 bits.
+#![tactic(auto)]
+
 ghost use Rattle.std.specs.Prelude.{◌≡◌, ◌≢◌, true, false, cond, ℕ, ◌+◌, ◌-◌, ◌*◌, ◌/◌, ◌%◌, ◌^◌, ◌<◌, ◌≤◌, ltb, leb};
 ghost use Rattle.alu.specs.declared.Status.{Status};
 ghost use Rattle.alu.specs.Brief.{status_in};
@@ -8,7 +10,7 @@ use alu::Status;
 use alu::brief::Brief;
 
 // The two halves of a product.
-#[derive(Drop)]
+#[derive(Clone, Copy)]
 pub struct Product {
     pub low: u32,
     pub high: u32,
@@ -16,14 +18,14 @@ pub struct Product {
 }
 
 // The same with the flags in brief.
-#[derive(Drop)]
+#[derive(Clone, Copy)]
 pub struct Halves {
     pub low: u32,
     pub high: u32,
     pub flags: Brief,
 }
 
-#[derive(Drop)]
+#[derive(Clone, Copy)]
 pub enum Quotient {
     Refused,
     Divided(u32, u32),
@@ -59,7 +61,7 @@ fn in_range(top: u64, negative: bool, m: u64) -> bool
 }
 
 // A product, and whether its upper half matters.
-#[derive(Drop)]
+#[derive(Clone, Copy)]
 struct Whole {
     all: u64,
     carry: bool,

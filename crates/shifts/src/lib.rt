@@ -1,4 +1,6 @@
 // SHL, SHR and SAR with their flags, at 8 and 32 bits.
+#![tactic(auto)]
+
 ghost use Rattle.std.specs.Prelude.{◌≡◌, cond, ◌+◌, ◌-◌, ◌*◌, ◌/◌, ◌%◌, ◌^◌, ◌<◌, ◌≤◌, eqb};
 ghost use Rattle.alu.specs.Brief.{status_in, out_in, seeing};
 ghost use Rattle.shifts.specs.Shifts.{shift_left, shift_right, shift_right_signed, shifted, shift};

@@ -9,7 +9,7 @@ ghost use Rattle.shortcut.specs.Bytes.{sib_at, sib_bytes, operand_at, operand_by
 ghost use Rattle.shortcut.specs.Forms.{number_at, spot_of, up_to};
 
 // Where a memory operand lies, 0 for a register; and how many bytes the instruction has up to its immediate.
-#[derive(Drop)]
+#[derive(Clone, Copy)]
 pub struct Spot {
     pub at: u32,
     pub upto: u32,

@@ -1,4 +1,6 @@
 // The common encodings in a short form, read straight from memory. Whatever is not here is not taken, and goes the whole way.
+#![tactic(auto)]
+
 pub mod bytes;
 pub mod condition;
 mod modrm;

@@ -1,4 +1,6 @@
 // Blocks carried out one after another, as long as they lie on one code page.
+#![tactic(auto)]
+
 ghost use Rattle.std.specs.Prelude.{◌≡◌, cond, ◌%◌, ◌≤◌, length, ltb};
 ghost use Rattle.encoding.specs.Encodings.{Classed};
 ghost use Rattle.blocks.specs.Blocks.{Known};
@@ -10,7 +12,7 @@ use keptpages::Kept;
 use machine::Control;
 
 // How many forms were done, how the last one ended (as in strides), and where the run stands.
-#[derive(Drop)]
+#[derive(Clone, Copy)]
 pub struct Traced {
     pub count: u32,
     pub status: u32,

@@ -1,4 +1,6 @@
 // PUSH, POP, CALL and RET: a value that is pushed is stored by the second access.
+#![tactic(auto)]
+
 ghost use Rattle.std.specs.Prelude.{◌≡◌};
 ghost use Rattle.stack.specs.Stack.{pushed, do_push, do_push_number, do_pop, do_call, do_call_to, do_return};
 

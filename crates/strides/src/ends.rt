@@ -13,7 +13,7 @@ use keptpages::{Kept, Settled};
 use machine::Control;
 
 // A place in memory: is its page at hand, and where it lies.
-#[derive(Drop)]
+#[derive(Clone, Copy)]
 pub struct Spot {
     pub found: bool,
     pub at: u32,

@@ -1,4 +1,6 @@
 // Forms carried out one after another, as a block has them.
+#![tactic(auto)]
+
 mod ends;
 mod memory;
 mod plain;
@@ -12,7 +14,7 @@ use machine::Control;
 
 // How a form ended: 0 done, and the instruction after it follows; 1 not done, and nothing is changed; 2 done; 3 done, and the pages that are kept may
 // be others. And where the run stands.
-#[derive(Drop)]
+#[derive(Clone, Copy)]
 pub struct Ended {
     pub status: u32,
     pub rest: Rest,

@@ -1,5 +1,7 @@
 // The quick way through a run: quick steps one after another, on pages that are kept. Where it cannot go on it changes nothing, and the complete step
 // takes over.
+#![tactic(auto)]
+
 ghost use Rattle.std.specs.Prelude.{◌≡◌, true, false, ◌%◌, ◌≤◌, length};
 ghost use Rattle.alu.specs.Brief.{status_in, tellable};
 ghost use Rattle.machine.specs.Record.{flags_in};
@@ -15,14 +17,14 @@ use keptpages::Kept;
 use machine::{Control, Core, Cpu, Flags, Registers};
 
 // How many quick steps there were, and where the run stands.
-#[derive(Drop)]
+#[derive(Clone, Copy)]
 struct Rushed {
     count: u32,
     rest: Rest,
 }
 
 // How many quick steps there were, and the record after them.
-#[derive(Drop)]
+#[derive(Clone, Copy)]
 pub struct Dashed {
     pub count: u32,
     pub cpu: Cpu,
