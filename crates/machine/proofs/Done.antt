@@ -1,16 +1,12 @@
--- A reply that is none of the others is Done, and one that is not Done says so. Assumes nothing.
+-- A reply that is not Done, as a match leaves it, does not count as Done. Assumes nothing.
 use mathlib.Core.Path.{◌≡◌, refl}
 use mathlib.Core.Bool.{false}
-use mathlib.Core.List.{[], ◌∷◌}
-use types.Run.{OneOf, miss}
-use denote.Enum.Declared.{tag_of}
-use Rattle.machine.specs.contracts.Reply.{the_type}
 use Rattle.machine.specs.declared.Reply.{Reply}
 use Rattle.machine.specs.declared.Reply.TheVariants.{Done, Fault, Trap, Halt, BadRecord, NoMemory, NotBuilt, Spent, Safe, TableOutside, Exposed}
 use Rattle.machine.specs.Replies.{is_done}
 
-pub not_done : (k : Reply) → OneOf (1 ∷ 2 ∷ 3 ∷ 4 ∷ 5 ∷ 6 ∷ 7 ∷ 8 ∷ 9 ∷ 10 ∷ []) (tag_of the_type k) → is_done k ≡ false
-not_done Done h = absurd (miss (1 ∷ 2 ∷ 3 ∷ 4 ∷ 5 ∷ 6 ∷ 7 ∷ 8 ∷ 9 ∷ 10 ∷ []) 0 tt h)
+pub not_done : (k : Reply) → (k ≡ Done → ⊥) → is_done k ≡ false
+not_done Done h = absurd (h refl)
 not_done (Fault a b c) h = refl
 not_done (Trap a b) h = refl
 not_done (Halt a) h = refl

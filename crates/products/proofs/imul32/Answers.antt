@@ -1,0 +1,13 @@
+use Rattle.products.proofs.Bounds.{product_le}
+use borrow.Author.Rules.{rules}
+use native.Mathlib.Omega.{arith}
+use Rattle.products.proofs.imul32.Goals as goal
+
+pub overflow_mul-m : goal.overflow_mul-m
+overflow_mul-m c = omega (arith, product_le 2147483648 2147483648 {a = c.magnitude.result} {b = c.magnitude-2.result} (search rules) (search rules))
+
+pub number-requires : goal.number-requires
+number-requires c = (search rules, (search rules, omega (arith, product_le 2147483648 2147483648 {a = c.magnitude.result} {b = c.magnitude-2.result} (search rules) (search rules))))
+
+pub returns : goal.returns
+returns c = λ s. simp (c.number.ensures.0, c.in_range-kept.ensures.0, c.magnitude-2.ensures.0, c.magnitude.ensures.0)
