@@ -1,0 +1,4 @@
+use Rattle.flow.proofs.looped.Goals as goal
+
+pub returns : goal.returns
+returns c = cc

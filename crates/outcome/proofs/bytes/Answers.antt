@@ -1,0 +1,6 @@
+use Rattle.outcome.proofs.Effects.{low-bytes}
+use Rattle.std.proofs.Common.{◌∙◌}
+use Rattle.outcome.proofs.bytes.Goals as goal
+
+pub returns : goal.returns
+returns c = (c.on_bytes.ensures) ∙ low-bytes _ _ _ _

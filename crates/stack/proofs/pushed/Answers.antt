@@ -1,0 +1,4 @@
+use Rattle.stack.proofs.pushed.Goals as goal
+
+pub returns : goal.returns
+returns c = cc
