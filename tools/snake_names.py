@@ -24,7 +24,7 @@ def snake(name):
 
 def files(ending):
     for top, _, names in sorted(os.walk("crates")):
-        if "/out" in top:
+        if "out" in top.split(os.sep):
             continue
         for n in sorted(names):
             if n.endswith(ending):

@@ -27,7 +27,7 @@ use Rattle.access.specs.declared.Access.{Access}
 use Rattle.access.specs.Located.{asked, trail_marks, placed, puts, nowhere, Held}
 use Rattle.access.proofs.Laws.{nothing_held, near_held, byte_held}
 use Rattle.outcome.specs.declared.Fast.{Fast}
-use Rattle.outcome.specs.Outcome.{asks, wantFirst, wantSecond, stores, left_of, rightOf}
+use Rattle.outcome.specs.Outcome.{asks, want_first, want_second, stores, left_of, right_of}
 use Rattle.shortcut.proofs.Small.{or_left, or_right}
 use Rattle.hops.specs.declared.Sought.{Sought}
 use Rattle.phases.specs.Planned.{access_marks}
@@ -36,24 +36,24 @@ use Rattle.hops.specs.Hops.{spotted, saved, Holds, Reaches, Spared, PagesOk}
 -- ---- what is asked
 
 module _ (p : Fast) where
-  want_first : (p.access ≡ 0 → ⊥) → asks 4 p ≡ false → wantFirst p ≡ asked (stores p) p.wide p.at
-  unfolding wantFirst
+  want_first : (p.access ≡ 0 → ⊥) → asks 4 p ≡ false → want_first p ≡ asked (stores p) p.wide p.at
+  unfolding want_first
   want_first n h = by (asks 3 p) refl
     where
-      by : (w : Bool) → asks 3 p ≡ w → wantFirst p ≡ asked (stores p) p.wide p.at
+      by : (w : Bool) → asks 3 p ≡ w → want_first p ≡ asked (stores p) p.wide p.at
       by true h' = rw (ne_eqb _ _ n, h, h')
       by false h' = rw (ne_eqb _ _ n, h, h')
 
-  want_no_first : asks 4 p ≡ true → wantFirst p ≡ Nothing
-  unfolding wantFirst
+  want_no_first : asks 4 p ≡ true → want_first p ≡ Nothing
+  unfolding want_first
   want_no_first h = rw (eqb-true p.access 4 h)
 
-  want_second : asks 4 p ≡ true → wantSecond p ≡ asked (stores p) p.wide p.at
-  unfolding wantSecond
+  want_second : asks 4 p ≡ true → want_second p ≡ asked (stores p) p.wide p.at
+  unfolding want_second
   want_second h = rw (eqb-true p.access 4 h)
 
-  want_no_second : asks 4 p ≡ false → wantSecond p ≡ Nothing
-  unfolding wantSecond
+  want_no_second : asks 4 p ≡ false → want_second p ≡ Nothing
+  unfolding want_second
   want_no_second h = rw h
 
 -- ---- the value and the operands
@@ -63,14 +63,14 @@ pushed p v q h ev ex ey = record { value = ev ∙ rw h; left = ex ∙ rw h; righ
 
 pub read : (p : Fast) (v : ℕ) (q : Sought) → p.access ≢ 0 → (p.access ≡ 4 → ⊥) → q.value ≡ v → q.x ≡ left_of p v → q.y ≡ cond (asks 1 p || asks 3 p) p.y v → Holds p v q
 read p v q z n ev ex ey =
-    let right : cond (asks 1 p || asks 3 p) p.y v ≡ rightOf p v = rw (ne_eqb p.access 0 z, ne_eqb p.access 4 n) refl in
-    record { value = ev ∙ rw (ne_eqb p.access 4 n) refl; left = ex ∙ ap (left_of p) (sym ev); right = ey ∙ right ∙ ap (rightOf p) (sym ev) }
+    let right : cond (asks 1 p || asks 3 p) p.y v ≡ right_of p v = rw (ne_eqb p.access 0 z, ne_eqb p.access 4 n) refl in
+    record { value = ev ∙ rw (ne_eqb p.access 4 n) refl; left = ex ∙ ap (left_of p) (sym ev); right = ey ∙ right ∙ ap (right_of p) (sym ev) }
 
 -- ---- the access that was found
 
 module _ (m : Mem) (c : Control) (p : Fast) where
   pub none_reached : (q : Sought) → p.access ≡ 0 → q.value ≡ 0 → q.x ≡ p.x → q.y ≡ p.y → Reaches m c p q
-  unfolding wantFirst wantSecond trail_marks patches_of patches puts saved
+  unfolding want_first want_second trail_marks patches_of patches puts saved
   none_reached q h v x y = record {
     one = nowhere;
     two = nowhere;

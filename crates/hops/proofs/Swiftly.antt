@@ -34,7 +34,7 @@ use Rattle.decode.proofs.Cap.{fetched_within}
 use Rattle.execute.specs.Execute.{compute}
 use Rattle.outcome.specs.declared.Fast.{Fast}
 use Rattle.shortcut.specs.Bytes.{Shows}
-use Rattle.outcome.specs.Outcome.{file, asks, stores, left_of, rightOf, out_of, result_of, stacked, depositOf, registersAfter, next_of, coreAfter, doubledIn, doubledOf, doubledAfter}
+use Rattle.outcome.specs.Outcome.{file, asks, stores, left_of, right_of, out_of, result_of, stacked, deposit_of, registers_after, next_of, core_after, doubled_in, doubled_of, doubled_after}
 use Rattle.shortcut.specs.Shortcut.{FitsTo, core_from, Idle, Tidy, FastOk}
 use Rattle.outcome.proofs.Effects.{numbered}
 use Rattle.shortcut.proofs.Small.{and_left, and_right}
@@ -83,8 +83,8 @@ module _ (p : Fast) (h : p.access < 3) where
   few_next a = rw (no 6 (omega arith))
 
 module _ (p : Fast) (idle : Idle p) where
-  idle_deposit : (x : Registers) (v : ℕ) → (depositOf p x v).e ≡ x.e
-  unfolding depositOf
+  idle_deposit : (x : Registers) (v : ℕ) → (deposit_of p x v).e ≡ x.e
+  unfolding deposit_of
   idle_deposit x v = rw idle.1.1
 
   abbrev idle_out : ℕ → Status → Out
@@ -180,22 +180,22 @@ module _ (d : Cpu) (e : List ℕ) (r : Rest) (p : Fast) where
   abbrev from : Core
   from = core_from e r.eip (status_in r.flags) (has 512 d.eflags) (has 1024 d.eflags)
 
-  advanced : {e' : List ℕ} {o : Out} (a : ℕ) (r' : Rest) → o ≡ result_of p a (status_in r.flags) → e' ≡ (registersAfter p (file e) o.value).e → r'.eip ≡ next_of p a
-      → status_in r'.flags ≡ o.status → current d e' r' ≡ with_core d (coreAfter p from a)
-  unfolding coreAfter
+  advanced : {e' : List ℕ} {o : Out} (a : ℕ) (r' : Rest) → o ≡ result_of p a (status_in r.flags) → e' ≡ (registers_after p (file e) o.value).e → r'.eip ≡ next_of p a
+      → status_in r'.flags ≡ o.status → current d e' r' ≡ with_core d (core_after p from a)
+  unfolding core_after
   advanced {o = o} a r' eo ee ei es =
-      let er = ee ∙ ap (λ (x : Out). (registersAfter p (file e) x.value).e) eo in
+      let er = ee ∙ ap (λ (x : Out). (registers_after p (file e) x.value).e) eo in
       let et = es ∙ ap (λ (x : Out). x.status) eo in
       λ j. with_core d (record { regs = record { e = er j }; eip = ei j; flags = record { status = et j; interrupt = has 512 d.eflags; direction = has 1024 d.eflags } })
 
-  doubled : {e' : List ℕ} (r' : Rest) → e' ≡ (doubledAfter p from).regs.e → r'.eip ≡ p.next → status_in r'.flags ≡ (doubledOf p from).status
-      → current d e' r' ≡ with_core d (doubledAfter p from)
-  unfolding doubledAfter
+  doubled : {e' : List ℕ} (r' : Rest) → e' ≡ (doubled_after p from).regs.e → r'.eip ≡ p.next → status_in r'.flags ≡ (doubled_of p from).status
+      → current d e' r' ≡ with_core d (doubled_after p from)
+  unfolding doubled_after
   doubled r' ee ei es =
       λ j. with_core d (record { regs = record { e = ee j }; eip = ei j; flags = record { status = es j; interrupt = has 512 d.eflags; direction = has 1024 d.eflags } })
 
 -- the result of the operands that were found
-pub of_operands : (p : Fast) (q : Sought) (s : Status) {o : Out} → (q.x ≡ left_of p q.value) × (q.y ≡ rightOf p q.value) → o ≡ out_of p.op p.wide q.x q.y s
+pub of_operands : (p : Fast) (q : Sought) (s : Status) {o : Out} → (q.x ≡ left_of p q.value) × (q.y ≡ right_of p q.value) → o ≡ out_of p.op p.wide q.x q.y s
     → o ≡ result_of p q.value s
 unfolding result_of
 of_operands p q s g eo = eo ∙ (λ j. out_of p.op p.wide (g.0 j) (g.1 j) s)
@@ -204,12 +204,12 @@ of_operands p q s g eo = eo ∙ (λ j. out_of p.op p.wide (g.0 j) (g.1 j) s)
 
 module _ (m : Mem) (e : List ℕ) (c : Control) (t : ℕ) (p : Fast) (q : Sought) (o : Out) where
   -- nothing is stored, and the stack stays
-  pub few_left : {e' : List ℕ} (r : Rest) → p.access < 3 → e' ≡ (depositOf p (file e) o.value).e → r.eip ≡ p.next → status_in r.flags ≡ o.status
+  pub few_left : {e' : List ℕ} (r : Rest) → p.access < 3 → e' ≡ (deposit_of p (file e) o.value).e → r.eip ≡ p.next → status_in r.flags ≡ o.status
       → Left m e c t p q o m e' (record { done = true; holds = true; rest = r })
   few_left r k ee ei es = record {
     done = refl;
     memory = sym (few_saved p k q.at o.value m);
-    registers = ee ∙ ap (λ (x : Registers). (depositOf p x o.value).e) (sym (few_stacked p k (file e)));
+    registers = ee ∙ ap (λ (x : Registers). (deposit_of p x o.value).e) (sym (few_stacked p k (file e)));
     onward = ei ∙ sym (few_next p k q.value);
     flags = es;
     spared = λ _. (refl, ((λ i _. refl), (λ i _. refl)));
@@ -218,10 +218,10 @@ module _ (m : Mem) (e : List ℕ) (c : Control) (t : ℕ) (p : Fast) (q : Sought
   -- the result goes to memory, and to no register
   pub stored_left : {m' : Mem} (r : Rest) (g : Bool) → p.access ≡ 3 → p.to ≡ 8 → m' ≡ patches (placed (spotted p q.at) o.value) m → (g ≡ true → Spared m m' c t)
       → r.eip ≡ p.next → status_in r.flags ≡ o.status → Left m e c t p q o m' e (record { done = true; holds = g; rest = r })
-  unfolding saved stacked depositOf
+  unfolding saved stacked deposit_of
   stored_left r g h k em es ei ef = record { done = refl; memory = em ∙ rw h; registers = rw (h, k); onward = ei ∙ rw h; flags = ef; spared = es }
 
-  pub moved_left : {m' : Mem} {e' : List ℕ} (r : Rest) (g : Bool) → m' ≡ saved p q.at o.value m → (g ≡ true → Spared m m' c t) → e' ≡ (registersAfter p (file e) o.value).e
+  pub moved_left : {m' : Mem} {e' : List ℕ} (r : Rest) (g : Bool) → m' ≡ saved p q.at o.value m → (g ≡ true → Spared m m' c t) → e' ≡ (registers_after p (file e) o.value).e
       → r.eip ≡ next_of p q.value → status_in r.flags ≡ o.status → Left m e c t p q o m' e' (record { done = true; holds = g; rest = r })
   moved_left r g em es ee ei ef = record { done = refl; memory = em; registers = ee; onward = ei; flags = ef; spared = es }
 
@@ -256,12 +256,12 @@ module _ (m : Mem) (e : List ℕ) (c : Control) (r : Rest) (h : Kept) (d' : List
 
     pub hopped : (g : Bool) (q : Sought) → p.taken ≡ true → Reaches m c p q → q.value < 4294967296
         → {m' : Mem} {e' : List ℕ} {o : Out} → o ≡ result_of p q.value (status_in r.flags) → m' ≡ saved p q.at o.value m
-        → e' ≡ (registersAfter p (file e) o.value).e → r'.eip ≡ next_of p q.value → status_in r'.flags ≡ o.status → (g ≡ true → PagesOk m' c h d')
+        → e' ≡ (registers_after p (file e) o.value).e → r'.eip ≡ next_of p q.value → status_in r'.flags ≡ o.status → (g ≡ true → PagesOk m' c h d')
         → SwiftOk m e c r h m' e' d' (record { done = true; holds = g; rest = r' })
     hopped g q taken found few {o = o} eo em ee ei es kept' = record {
       did = λ _ d hc good.
           let k : KeptOk m d.control false h = rw hc kept in
-          quick_step m size e r h d k small page room p q (λ a. coreAfter p (from d e r p) a) (hop_fast.fits taken _ _ (view m d.control) (shown m size e r h d k small page room)) (rw hc found) few good
+          quick_step m size e r h d k small page room p q (λ a. core_after p (from d e r p) a) (hop_fast.fits taken _ _ (view m d.control) (shown m size e r h d k small page room)) (rw hc found) few good
           o.value r' (λ _. ap (λ (x : Out). x.value) eo) em (advanced d e r p q.value r' eo ee ei es);
       not = λ w. absurd (false≢true (sym w));
       kept = kept';
@@ -269,7 +269,7 @@ module _ (m : Mem) (e : List ℕ) (c : Control) (r : Rest) (h : Kept) (d' : List
 
     -- nothing is stored, and the stack stays
     pub few_hopped : (q : Sought) → p.taken ≡ true → Reaches m c p q → q.value < 4294967296 → p.access < 3
-        → {e' : List ℕ} {o : Out} → o ≡ result_of p q.value (status_in r.flags) → e' ≡ (depositOf p (file e) o.value).e
+        → {e' : List ℕ} {o : Out} → o ≡ result_of p q.value (status_in r.flags) → e' ≡ (deposit_of p (file e) o.value).e
         → r'.eip ≡ p.next → status_in r'.flags ≡ o.status → PagesOk m c h d' → SwiftOk m e c r h m e' d' (record { done = true; holds = true; rest = r' })
     few_hopped q taken found few k {o = o} eo ee ei es kept' =
         let l = few_left m e c h.table p q o r' k ee ei es in
@@ -295,15 +295,15 @@ module _ (m : Mem) (e : List ℕ) (c : Control) (r : Rest) (h : Kept) (d' : List
 
     -- MUL
     pub double_hopped : p.doubling ≡ true
-        → {e' : List ℕ} → e' ≡ (with_register (with_register (file e) 0 (doubledIn p e (status_in r.flags)).low) 2 (doubledIn p e (status_in r.flags)).high).e
-        → r'.eip ≡ p.next → status_in r'.flags ≡ (doubledIn p e (status_in r.flags)).status → PagesOk m c h d' → SwiftOk m e c r h m e' d' (record { done = true; holds = true; rest = r' })
-    unfolding doubledAfter
+        → {e' : List ℕ} → e' ≡ (with_register (with_register (file e) 0 (doubled_in p e (status_in r.flags)).low) 2 (doubled_in p e (status_in r.flags)).high).e
+        → r'.eip ≡ p.next → status_in r'.flags ≡ (doubled_in p e (status_in r.flags)).status → PagesOk m c h d' → SwiftOk m e c r h m e' d' (record { done = true; holds = true; rest = r' })
+    unfolding doubled_after
     double_hopped doubling ee ei es kept' = record {
       did = λ _ d hc good.
           let k : KeptOk m d.control false h = rw hc kept in
           let f = hop_fast.doubles doubling in
           let few : p.access < 3 = omega (arith, f.0) in
-          quick_step m size e r h d k small page room p (nowhere p) (λ a. doubledAfter p (from d e r p)) (f.1 _ _ (view m d.control) (shown m size e r h d k small page room))
+          quick_step m size e r h d k small page room p (nowhere p) (λ a. doubled_after p (from d e r p)) (f.1 _ _ (view m d.control) (shown m size e r h d k small page room))
           (none_reached m d.control p (nowhere p) f.0 refl refl refl) (omega arith) good 0 r' (λ w. absurd (false≢true (sym (few_stores p few) ∙ w))) (sym (few_saved p few 0 0 m)) (doubled d e r p r' ee ei es);
       not = λ w. absurd (false≢true (sym w));
       kept = λ _. kept';

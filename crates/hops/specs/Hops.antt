@@ -17,7 +17,7 @@ use Rattle.access.specs.declared.Place.{Place}
 use Rattle.access.specs.declared.Place.TheVariants.{Byte, Near}
 use Rattle.access.specs.Located.{Held, placed, puts}
 use Rattle.outcome.specs.declared.Fast.{Fast}
-use Rattle.outcome.specs.Outcome.{file, asks, wantFirst, wantSecond, stores, left_of, rightOf, registersAfter, next_of}
+use Rattle.outcome.specs.Outcome.{file, asks, want_first, want_second, stores, left_of, right_of, registers_after, next_of}
 use Rattle.shortcut.specs.Shortcut.{core_from}
 use Rattle.hops.specs.declared.Rest.{Rest}
 use Rattle.hops.specs.declared.Swift.{Swift}
@@ -38,16 +38,16 @@ saved p i x m = cond (stores p) (patches (placed (spotted p i) x) m) m
 pub record Holds (p : Fast) (v : ℕ) (q : Sought) : Type 0 where
   pub value : q.value ≡ cond (asks 4 p) 0 v
   pub left : q.x ≡ left_of p q.value
-  pub right : q.y ≡ rightOf p q.value
+  pub right : q.y ≡ right_of p q.value
 
 -- both accesses of the instruction are found, and no mark is left to make
 pub record Reaches (m : Mem) (c : Control) (p : Fast) (q : Sought) : Type 0 where
   pub one : Access
   pub two : Access
-  pub firstly : Held m c (wantFirst p) one
-  pub secondly : Held m c (wantSecond p) two
+  pub firstly : Held m c (want_first p) one
+  pub secondly : Held m c (want_second p) two
   pub value : one.value ≡ q.value
-  pub operands : (q.x ≡ left_of p q.value) × (q.y ≡ rightOf p q.value)
+  pub operands : (q.x ≡ left_of p q.value) × (q.y ≡ right_of p q.value)
   pub quiet : access_marks two (access_marks one m) ≡ m
   pub left : (x : ℕ) → patches (puts two x) (patches (puts one x) m) ≡ saved p q.at x m
 
@@ -62,7 +62,7 @@ Spared m m' c t = (length m' ≡ length m) × ((Agree m m' (dir_frame c)) × (Ag
 pub record Left (m : Mem) (e : List ℕ) (c : Control) (t : ℕ) (p : Fast) (q : Sought) (o : Out) (m' : Mem) (e' : List ℕ) (w : Swift) : Type 0 where
   pub done : w.done ≡ true
   pub memory : m' ≡ saved p q.at o.value m
-  pub registers : e' ≡ (registersAfter p (file e) o.value).e
+  pub registers : e' ≡ (registers_after p (file e) o.value).e
   pub onward : w.rest.eip ≡ next_of p q.value
   pub flags : status_in w.rest.flags ≡ o.status
   pub spared : w.holds ≡ true → Spared m m' c t

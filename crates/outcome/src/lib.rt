@@ -2,11 +2,11 @@
 #![tactic(auto)]
 
 ghost use Rattle.std.specs.Prelude.{◌≡◌, ◌<◌, true, false, slice_index, slice_set};
-ghost use Rattle.machine.specs.Record.{readAt, withRegister, writeAt, replaced};
+ghost use Rattle.machine.specs.Record.{read_at, with_register, write_at, replaced};
 ghost use Rattle.products.specs.Products.{product};
 ghost use Rattle.shifts.specs.Shifts.{shifted};
-ghost use Rattle.alu.specs.Brief.{statusIn, out_in};
-ghost use Rattle.outcome.specs.Outcome.{file, lowOut, out_of, stacked, depositOf, doubledIn};
+ghost use Rattle.alu.specs.Brief.{status_in, out_in};
+ghost use Rattle.outcome.specs.Outcome.{file, low_out, out_of, stacked, deposit_of, doubled_in};
 
 use alu::brief::{Brief, Short};
 
@@ -42,7 +42,7 @@ pub fn register(e: &[u32], n: u32) -> u32
 
 // A dword register or a byte's.
 pub fn read(e: &[u32], w: bool, n: u32) -> u32
-    ensures { result ≡ readAt w (file e.now) n }
+    ensures { result ≡ read_at w (file e.now) n }
 {
     if w {
         return register(e, n);
@@ -55,7 +55,7 @@ pub fn read(e: &[u32], w: bool, n: u32) -> u32
 }
 
 fn times(x: u32, y: u32, f: Brief) -> Short
-    ensures { out_in result ≡ lowOut (product true true x y (statusIn f)) }
+    ensures { out_in result ≡ low_out (product true true x y (status_in f)) }
 {
     let q = products::multiply32(true, x, y, f);
     let flags = q.flags;
@@ -68,7 +68,7 @@ fn times(x: u32, y: u32, f: Brief) -> Short
 // By n places; none leaves all as it is.
 fn shifted(op: u32, x: u32, n: u32, f: Brief) -> Short
     requires { n < 32 }
-    ensures { out_in result ≡ shifted op 32 n x (statusIn f) }
+    ensures { out_in result ≡ shifted op 32 n x (status_in f) }
 {
     if n == 0 {
         return Short { value: x, flags: f };
@@ -78,7 +78,7 @@ fn shifted(op: u32, x: u32, n: u32, f: Brief) -> Short
 
 // The value and the flags, of dwords.
 pub fn dwords(op: u32, x: u32, y: u32, f: Brief) -> Short
-    ensures { out_in result ≡ out_of op true x y (statusIn f) }
+    ensures { out_in result ≡ out_of op true x y (status_in f) }
 {
     match op {
         0 => alu::brief::add32(x, y, false),
@@ -99,7 +99,7 @@ pub fn dwords(op: u32, x: u32, y: u32, f: Brief) -> Short
 }
 
 fn on_bytes(op: u32, x: u8, y: u8, f: Brief) -> Short
-    ensures { out_in result ≡ out_of op false x y (statusIn f) }
+    ensures { out_in result ≡ out_of op false x y (status_in f) }
 {
     match op {
         0 => alu::brief::add8(x, y, false),
@@ -122,7 +122,7 @@ fn on_bytes(op: u32, x: u8, y: u8, f: Brief) -> Short
 
 // The same of bytes.
 pub fn bytes(op: u32, x: u32, y: u32, f: Brief) -> Short
-    ensures { out_in result ≡ out_of op false x y (statusIn f) }
+    ensures { out_in result ≡ out_of op false x y (status_in f) }
 {
     on_bytes(op, (x % 256) as u8, (y % 256) as u8, f)
 }
@@ -146,7 +146,7 @@ fn replaced(old: u32, n: u32, x: u32) -> u32
 }
 
 fn write(e: &mut [u32], w: bool, n: u32, x: u32)
-    ensures { e.new ≡ (writeAt w (file e.old) n x).e }
+    ensures { e.new ≡ (write_at w (file e.old) n x).e }
 {
     if w {
         put(e, n, x);
@@ -171,7 +171,7 @@ pub fn restack(e: &mut [u32], p: Fast)
 
 // The result x goes to its register.
 pub fn deposit(e: &mut [u32], p: Fast, x: u32)
-    ensures { e.new ≡ (depositOf p (file e.old) x).e }
+    ensures { e.new ≡ (deposit_of p (file e.old) x).e }
 {
     if p.to < 8 {
         write(e, p.wide, p.to, x);
@@ -180,7 +180,7 @@ pub fn deposit(e: &mut [u32], p: Fast, x: u32)
 
 // MUL: EAX and EDX take the halves of the product; answers the flags.
 pub fn double(e: &mut [u32], p: Fast, f: Brief) -> Brief
-    ensures { (e.new ≡ (withRegister (withRegister (file e.old) 0 (doubledIn p e.old (statusIn f)).low) 2 (doubledIn p e.old (statusIn f)).high).e) × (statusIn result ≡ (doubledIn p e.old (statusIn f)).status) }
+    ensures { (e.new ≡ (with_register (with_register (file e.old) 0 (doubled_in p e.old (status_in f)).low) 2 (doubled_in p e.old (status_in f)).high).e) × (status_in result ≡ (doubled_in p e.old (status_in f)).status) }
 {
     let q = products::multiply32(false, register(e, 0), p.x, f);
     put(e, 0, q.low);

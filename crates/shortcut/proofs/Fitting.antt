@@ -19,7 +19,7 @@ use Rattle.moves.specs.Moves.{do_address}
 use Rattle.execute.specs.Execute.{permitted, writes_operand, reads_operand, first, second, compute_arithmetic, compute_move, compute}
 use Rattle.shortcut.specs.Bytes.{operand_at}
 use Rattle.shifts.specs.Shifts.{shift}
-use Rattle.outcome.specs.Outcome.{file, wantFirst, wantSecond, out_of, result_of, stacked, depositOf, coreAfter}
+use Rattle.outcome.specs.Outcome.{file, want_first, want_second, out_of, result_of, stacked, deposit_of, core_after}
 use Rattle.shortcut.specs.Forms.{is_direct, is_odd, spot_of, left_fast, number_at, times_fast, from_fast, address_fast, up_to}
 use Rattle.shortcut.specs.Shortcut.{Fits, core_from}
 use Rattle.shortcut.proofs.Decoded.{operand_direct, operand_register}
@@ -82,7 +82,7 @@ module _ (v : View) (m : Mem) (e : List ℕ) (s : Status) (eip i : ℕ) (int dir
       (second' : second (combining f op x n) (file e) ≡ Nothing)
       (comp : (a : ℕ) → compute (combining f op x n) k a ≡ combined (combining f op x n) k (operate op (is_odd b) (operand_value (combining f op x n) (file e) a) y s)) where
     pub left_fits : Fits v k (left_fast m e eip i op b md y n)
-    unfolding combined deposit operand_value operand_want left_fast spot_of wantFirst wantSecond out_of result_of stacked depositOf coreAfter
+    unfolding combined deposit operand_value operand_want left_fast spot_of want_first want_second out_of result_of stacked deposit_of core_after
     left_fits = by (is_direct md) refl (writes op) refl
       where
         by : (d : Bool) → is_direct md ≡ d → (w : Bool) → writes op ≡ w → Fits v k (left_fast m e eip i op b md y n)
@@ -142,7 +142,7 @@ module _ (v : View) (m : Mem) (e : List ℕ) (s : Status) (eip i : ℕ) (int dir
       (second' : second (combining f (reg_field md) x n) (file e) ≡ Nothing)
       (comp : (a : ℕ) → compute (combining f (reg_field md) x n) k a ≡ deposited (combining f (reg_field md) x n) k (shift (reg_field md) true y (operand_value (combining f (reg_field md) x n) (file e) a) s)) where
     pub shift_fits : Fits v k (left_fast m e eip i (8 + reg_field md) b md y n)
-    unfolding deposit operand_value operand_want left_fast spot_of wantFirst wantSecond out_of result_of stacked depositOf coreAfter
+    unfolding deposit operand_value operand_want left_fast spot_of want_first want_second out_of result_of stacked deposit_of core_after
     shift_fits = at_operand (is_direct md) refl
       where
         at_operand : (d : Bool) → is_direct md ≡ d → Fits v k (left_fast m e eip i (8 + reg_field md) b md y n)
@@ -175,7 +175,7 @@ module _ (v : View) (m : Mem) (e : List ℕ) (s : Status) (eip i : ℕ) (int dir
     timing = record { family = 8; operation = op; wide = true; register = reg_field md; operand = operand_at m (i + 2) md; immediate = x; length = n }
 
     pub times_fits : decode eip v (log_at eip 0) ≡ ok timing (log_at eip n) → Fits v k (times_fast m e eip i long md)
-    unfolding first second writes_operand reads_operand compute compute_arithmetic do_multiply_by operand_value operand_want write_at times_fast spot_of wantFirst wantSecond out_of result_of stacked depositOf coreAfter
+    unfolding first second writes_operand reads_operand compute compute_arithmetic do_multiply_by operand_value operand_want write_at times_fast spot_of want_first want_second out_of result_of stacked deposit_of core_after
     times_fits de = at_operand (is_direct md) refl
       where
         at_operand : (d : Bool) → is_direct md ≡ d → Fits v k (times_fast m e eip i long md)
@@ -208,7 +208,7 @@ module _ (v : View) (m : Mem) (e : List ℕ) (s : Status) (eip i : ℕ) (int dir
   module _ (op x n : ℕ) (low : ltb op 10 ≡ true) (len : n ≡ up_to m i md)
       (de : decode eip v (log_at eip 0) ≡ ok (combining 2 op x n) (log_at eip n)) where
     pub from_fits : Fits v k (from_fast m e eip i op b md)
-    unfolding first second writes_operand reads_operand compute compute_arithmetic do_combine_from combined_from operand_value operand_want from_fast spot_of wantFirst wantSecond out_of result_of stacked depositOf coreAfter
+    unfolding first second writes_operand reads_operand compute compute_arithmetic do_combine_from combined_from operand_value operand_want from_fast spot_of want_first want_second out_of result_of stacked deposit_of core_after
     from_fits = by (is_direct md) refl (writes op) refl
       where
         by : (d : Bool) → is_direct md ≡ d → (w : Bool) → writes op ≡ w → Fits v k (from_fast m e eip i op b md)
@@ -266,7 +266,7 @@ module _ (v : View) (m : Mem) (e : List ℕ) (s : Status) (eip i : ℕ) (int dir
     loading = record { family = 11; operation = op; wide = true; register = reg_field md; operand = operand_at m (i + 2) md; immediate = x; length = n }
 
     pub address_fits : decode eip v (log_at eip 0) ≡ ok loading (log_at eip n) → Fits v k (address_fast m e eip i md)
-    unfolding first second writes_operand reads_operand compute compute_move do_address address address_fast spot_of wantFirst wantSecond operate operation out_of result_of stacked depositOf coreAfter write_at
+    unfolding first second writes_operand reads_operand compute compute_move do_address address address_fast spot_of want_first want_second operate operation out_of result_of stacked deposit_of core_after write_at
     address_fits de = record {
       instr = loading;
       decodes = de;

@@ -17,7 +17,7 @@ use Rattle.arithmetic.specs.Arithmetic.{combined, do_combine_immediate, do_unary
 use Rattle.stack.specs.Stack.{do_push, do_push_number, do_pop, do_call, do_return}
 use Rattle.flow.specs.Flow.{do_jump_on, do_jump}
 use Rattle.execute.specs.Execute.{writes_operand, reads_operand, first, second, compute_arithmetic, compute_move, compute_flow, compute}
-use Rattle.outcome.specs.Outcome.{file, wantFirst, wantSecond, out_of, result_of, stacked, depositOf, coreAfter}
+use Rattle.outcome.specs.Outcome.{file, want_first, want_second, out_of, result_of, stacked, deposit_of, core_after}
 use Rattle.shortcut.specs.Forms.{number_at, register_fast, count_fast, jump_fast, push_fast, pop_fast}
 use Rattle.shortcut.specs.Shortcut.{Fits, core_from}
 use Rattle.shortcut.proofs.Fitting.{below_eight}
@@ -43,7 +43,7 @@ module _ (v : View) (m : Mem) (e : List ℕ) (s : Status) (eip i : ℕ) (int dir
     by_number = naming 3 op w n (number_at w m (i + 1)) (1 + cond w 4 1)
 
     pub register_fits : decode eip v (log_at eip 0) ≡ ok by_number (log_at eip (1 + cond w 4 1)) → Fits v k (register_fast m eip i op w x n)
-    unfolding first second writes_operand reads_operand compute compute_arithmetic do_combine_immediate combined deposit operand_value operand_want register_fast wantFirst wantSecond out_of result_of stacked depositOf coreAfter
+    unfolding first second writes_operand reads_operand compute compute_arithmetic do_combine_immediate combined deposit operand_value operand_want register_fast want_first want_second out_of result_of stacked deposit_of core_after
     register_fits de = by (writes op) refl
       where
         by : (d : Bool) → writes op ≡ d → Fits v k (register_fast m eip i op w x n)
@@ -70,7 +70,7 @@ module _ (v : View) (m : Mem) (e : List ℕ) (s : Status) (eip i : ℕ) (int dir
 
   module _ (x : ℕ) where
     pub inc_fits : decode eip v (log_at eip 0) ≡ ok (naming 4 0 true (b % 8) x 1) (log_at eip 1) → Fits v k (count_fast e eip 10 b)
-    unfolding first second writes_operand reads_operand compute compute_arithmetic do_unary deposit operand_value operand_want read_at count_fast wantFirst wantSecond out_of result_of stacked depositOf coreAfter
+    unfolding first second writes_operand reads_operand compute compute_arithmetic do_unary deposit operand_value operand_want read_at count_fast want_first want_second out_of result_of stacked deposit_of core_after
     inc_fits de = record {
       instr = naming 4 0 true (b % 8) x 1;
       decodes = de;
@@ -83,7 +83,7 @@ module _ (v : View) (m : Mem) (e : List ℕ) (s : Status) (eip i : ℕ) (int dir
     }
 
     pub dec_fits : decode eip v (log_at eip 0) ≡ ok (naming 4 1 true (b % 8) x 1) (log_at eip 1) → Fits v k (count_fast e eip 11 b)
-    unfolding first second writes_operand reads_operand compute compute_arithmetic do_unary deposit operand_value operand_want read_at count_fast wantFirst wantSecond out_of result_of stacked depositOf coreAfter
+    unfolding first second writes_operand reads_operand compute compute_arithmetic do_unary deposit operand_value operand_want read_at count_fast want_first want_second out_of result_of stacked deposit_of core_after
     dec_fits de = record {
       instr = naming 4 1 true (b % 8) x 1;
       decodes = de;
@@ -99,7 +99,7 @@ module _ (v : View) (m : Mem) (e : List ℕ) (s : Status) (eip i : ℕ) (int dir
 
   module _ (op r x n : ℕ) where
     pub jump_fits : decode eip v (log_at eip 0) ≡ ok (naming 18 op true r x n) (log_at eip n) → Fits v k (jump_fast (wrap (wrap (eip + n) + x)))
-    unfolding first second writes_operand reads_operand compute compute_flow do_jump operate operation jump_fast wantFirst wantSecond out_of result_of stacked depositOf coreAfter
+    unfolding first second writes_operand reads_operand compute compute_flow do_jump operate operation jump_fast want_first want_second out_of result_of stacked deposit_of core_after
     jump_fits de = record {
       instr = naming 18 op true r x n;
       decodes = de;
@@ -112,7 +112,7 @@ module _ (v : View) (m : Mem) (e : List ℕ) (s : Status) (eip i : ℕ) (int dir
     }
 
     pub jump_on_lem : holds op s ≡ true → decode eip v (log_at eip 0) ≡ ok (naming 17 op true r x n) (log_at eip n) → Fits v k (jump_fast (wrap (wrap (eip + n) + x)))
-    unfolding first second writes_operand reads_operand compute compute_flow do_jump_on operate operation jump_fast wantFirst wantSecond out_of result_of stacked depositOf coreAfter
+    unfolding first second writes_operand reads_operand compute compute_flow do_jump_on operate operation jump_fast want_first want_second out_of result_of stacked deposit_of core_after
     jump_on_lem h de = record {
       instr = naming 17 op true r x n;
       decodes = de;
@@ -125,7 +125,7 @@ module _ (v : View) (m : Mem) (e : List ℕ) (s : Status) (eip i : ℕ) (int dir
     }
 
     pub jump_off : holds op s ≡ false → decode eip v (log_at eip 0) ≡ ok (naming 17 op true r x n) (log_at eip n) → Fits v k (jump_fast (wrap (eip + n)))
-    unfolding first second writes_operand reads_operand compute compute_flow do_jump_on operate operation jump_fast wantFirst wantSecond out_of result_of stacked depositOf coreAfter
+    unfolding first second writes_operand reads_operand compute compute_flow do_jump_on operate operation jump_fast want_first want_second out_of result_of stacked deposit_of core_after
     jump_off h de = record {
       instr = naming 17 op true r x n;
       decodes = de;
@@ -141,7 +141,7 @@ module _ (v : View) (m : Mem) (e : List ℕ) (s : Status) (eip i : ℕ) (int dir
 
     pub push_fits : register (file e) r < 4294967296 → decode eip v (log_at eip 0) ≡ ok (naming 13 op true r x n) (log_at eip n)
         → Fits v k (push_fast e (register (file e) r) (wrap (eip + n)))
-    unfolding first second writes_operand reads_operand compute compute_move do_push operand_value operand_want read_at operate operation push_fast wantFirst wantSecond out_of result_of stacked depositOf coreAfter
+    unfolding first second writes_operand reads_operand compute compute_move do_push operand_value operand_want read_at operate operation push_fast want_first want_second out_of result_of stacked deposit_of core_after
     push_fits h de = record {
       instr = naming 13 op true r x n;
       decodes = de;
@@ -154,7 +154,7 @@ module _ (v : View) (m : Mem) (e : List ℕ) (s : Status) (eip i : ℕ) (int dir
     }
 
     pub push_number_fits : x < 4294967296 → decode eip v (log_at eip 0) ≡ ok (naming 14 op true r x n) (log_at eip n) → Fits v k (push_fast e x (wrap (eip + n)))
-    unfolding first second writes_operand reads_operand compute compute_move do_push_number operate operation push_fast wantFirst wantSecond out_of result_of stacked depositOf coreAfter
+    unfolding first second writes_operand reads_operand compute compute_move do_push_number operate operation push_fast want_first want_second out_of result_of stacked deposit_of core_after
     push_number_fits h de = record {
       instr = naming 14 op true r x n;
       decodes = de;
@@ -167,7 +167,7 @@ module _ (v : View) (m : Mem) (e : List ℕ) (s : Status) (eip i : ℕ) (int dir
     }
 
     pub call_fits : decode eip v (log_at eip 0) ≡ ok (naming 20 op true r x n) (log_at eip n) → Fits v k (push_fast e (wrap (eip + n)) (wrap (wrap (eip + n) + x)))
-    unfolding first second writes_operand reads_operand compute compute_flow do_call operate operation push_fast wantFirst wantSecond out_of result_of stacked depositOf coreAfter
+    unfolding first second writes_operand reads_operand compute compute_flow do_call operate operation push_fast want_first want_second out_of result_of stacked deposit_of core_after
     call_fits de = record {
       instr = naming 20 op true r x n;
       decodes = de;
@@ -181,7 +181,7 @@ module _ (v : View) (m : Mem) (e : List ℕ) (s : Status) (eip i : ℕ) (int dir
 
   module _ (op x n : ℕ) where
     pub pop_fits : decode eip v (log_at eip 0) ≡ ok (naming 15 op true (b % 8) x n) (log_at eip n) → Fits v k (pop_fast e 5 (b % 8) (wrap (eip + n)))
-    unfolding first second writes_operand reads_operand compute compute_move do_pop deposit operand_want write_at operate operation pop_fast wantFirst wantSecond out_of result_of stacked depositOf coreAfter
+    unfolding first second writes_operand reads_operand compute compute_move do_pop deposit operand_want write_at operate operation pop_fast want_first want_second out_of result_of stacked deposit_of core_after
     pop_fits de = record {
       instr = naming 15 op true (b % 8) x n;
       decodes = de;
@@ -194,7 +194,7 @@ module _ (v : View) (m : Mem) (e : List ℕ) (s : Status) (eip i : ℕ) (int dir
     }
 
     pub return_fits : decode eip v (log_at eip 0) ≡ ok (naming 22 op true x 0 n) (log_at eip n) → Fits v k (pop_fast e 6 8 (wrap (eip + n)))
-    unfolding first second writes_operand reads_operand compute compute_flow do_return operate operation pop_fast wantFirst wantSecond out_of result_of stacked depositOf coreAfter
+    unfolding first second writes_operand reads_operand compute compute_flow do_return operate operation pop_fast want_first want_second out_of result_of stacked deposit_of core_after
     return_fits de = record {
       instr = naming 22 op true x 0 n;
       decodes = de;

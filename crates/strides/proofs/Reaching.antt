@@ -15,8 +15,8 @@ use Rattle.paging.proofs.Pages.{there}
 use Rattle.keptpages.specs.declared.Kept.{Kept}
 use Rattle.keptpages.specs.Quiet.{Quiet, Agree, HeldOk}
 use Rattle.outcome.specs.declared.Fast.{Fast}
-use Rattle.outcome.specs.Outcome.{file, stores, out_of, stacked, depositOf, registersAfter, next_of}
-use Rattle.outcome.proofs.Effects.{byte-numbered}
+use Rattle.outcome.specs.Outcome.{file, stores, out_of, stacked, deposit_of, registers_after, next_of}
+use Rattle.outcome.proofs.Effects.{byte_numbered}
 use Rattle.shortcut.specs.Forms.{taking, push_fast, pop_fast}
 use Rattle.forms.specs.declared.Form.{Form}
 use Rattle.forms.specs.Forms.{reg, next_in, spot_in, target, working, by_memory, by_byte, meant}
@@ -47,7 +47,7 @@ dword_small m i h = omega (arith, h i, h (i + 1), h (i + 2), h (i + 3))
 -- MOV of a byte
 byte_moved : (e : List ℕ) (n y : ℕ) (s : Status) → y < 256 → record { value = y; status = s } ≡ out_of 9 false (read_at false (file e) n) y s
 unfolding operation
-byte_moved e n y s h = byte-numbered (read_at false (file e) n) y s (byte_small e n) h refl refl refl
+byte_moved e n y s h = byte_numbered (read_at false (file e) n) y s (byte_small e n) h refl refl refl
 
 -- all but CMP write
 writing : (op : ℕ) → op < 7 → writes op ≡ true
@@ -134,7 +134,7 @@ module _ (m : Mem) (e : List ℕ) (c : Control) (r : Rest) (h : Kept) (d : List 
     -- the instruction p, with its access found
     ended : (p : Fast) → meant f e r.eip s ≡ p → p.taken ≡ true → (i u x y : ℕ) → Reaches m c p (record { found = true; at = i; value = u; x = x; y = y }) → u < 4294967296
         → {m' : Mem} {e' : List ℕ} {o : Out} (w : Ended) → o ≡ out_of p.op p.wide x y s → m' ≡ saved p i o.value m
-        → e' ≡ (registersAfter p (file e) o.value).e → w.rest.eip ≡ next_of p u → status_in w.rest.flags ≡ o.status
+        → e' ≡ (registers_after p (file e) o.value).e → w.rest.eip ≡ next_of p u → status_in w.rest.flags ≡ o.status
         → not (eqb w.status 1) ≡ true → (not (eqb w.status 3) ≡ true → Spared m m' c h.table)
         → (w.status ≡ 0 → (w.rest.eip ≡ next_in f r.eip) × (Agree m m' (h.base / 4096))) → EndedOk m e c r h d f m' e' w
     ended p is taken i u x y found few {m'} w eo em ee ei es done spared after =
@@ -152,7 +152,7 @@ module _ (m : Mem) (e : List ℕ) (c : Control) (r : Rest) (h : Kept) (d : List 
       reads = working op wide 2 (spot_in f e) x y (taking op f.a) (next_in f r.eip)
 
       worked : {l i : ℕ} → l ≡ spot_in f e → (wide ≡ true → l % 4096 ≤ 4092) → AtHand h.table d false l i → v ≡ cond wide (dword_at m i) (at m i) → v < 4294967296 → {e' : List ℕ} {o : Out} (b : Brief)
-          → o ≡ out_of op wide x v s → e' ≡ (depositOf reads (file e) o.value).e → next ≡ next_in f r.eip → status_in b ≡ o.status
+          → o ≡ out_of op wide x v s → e' ≡ (deposit_of reads (file e) o.value).e → next ≡ next_in f r.eip → status_in b ≡ o.status
           → EndedOk m e c r h d f m e' (record { status = 0; rest = record { eip = next; flags = b } })
       unfolding saved stacked
       worked {l} {i} el room near ev few b eo ee en es =
@@ -162,17 +162,17 @@ module _ (m : Mem) (e : List ℕ) (c : Control) (r : Rest) (h : Kept) (d : List 
           none : (n : ℕ) → (n % 4 ≡ 0) → 2 ≡ n → ⊥
           none n g z = omega (arith, g, z)
 
-      to_register : f.a < 8 → writes op ≡ true → {e' : List ℕ} (u : ℕ) → e' ≡ (write_at wide (file e) f.a u).e → e' ≡ (depositOf reads (file e) u).e
-      unfolding depositOf
+      to_register : f.a < 8 → writes op ≡ true → {e' : List ℕ} (u : ℕ) → e' ≡ (write_at wide (file e) f.a u).e → e' ≡ (deposit_of reads (file e) u).e
+      unfolding deposit_of
       to_register a g u ee = rw (g, lt-ltb f.a 8 a) ee
 
-      to_none : writes op ≡ false → (u : ℕ) → e ≡ (depositOf reads (file e) u).e
-      unfolding depositOf
+      to_none : writes op ≡ false → (u : ℕ) → e ≡ (deposit_of reads (file e) u).e
+      unfolding deposit_of
       to_none g u = rw g
 
     -- POP and RET
     popped : (k n v : ℕ) → 5 ≤ k → (eqb k 5 || eqb k 6) ≡ true → meant f e r.eip s ≡ pop_fast e k n (next_in f r.eip) → {l i : ℕ} → l ≡ reg e 4 → Near h.table d false l i → v ≡ dword_at m i
-        → v < 4294967296 → {e' : List ℕ} (w : Ended) → e' ≡ (depositOf (pop_fast e k n (next_in f r.eip)) (file (set e 4 (wrap (reg e 4 + 4)))) v).e
+        → v < 4294967296 → {e' : List ℕ} (w : Ended) → e' ≡ (deposit_of (pop_fast e k n (next_in f r.eip)) (file (set e 4 (wrap (reg e 4 + 4)))) v).e
         → w.rest.eip ≡ cond (eqb k 6) v (next_in f r.eip) → status_in w.rest.flags ≡ s → not (eqb w.status 1) ≡ true → (w.status ≡ 0 → w.rest.eip ≡ next_in f r.eip)
         → EndedOk m e c r h d f m e' w
     unfolding saved stacked pop_fast
@@ -184,7 +184,7 @@ module _ (m : Mem) (e : List ℕ) (c : Control) (r : Rest) (h : Kept) (d : List 
         let left : ◌≡◌ {A = ℕ} 0 (cond (eqb k 1 || eqb k 3) v 0) = rw (no 1 (omega arith), no 3 (omega arith)) in
         let right : v ≡ cond (eqb k 1 || eqb k 3) 0 v = rw (no 1 (omega arith), no 3 (omega arith)) in
         let unsaved : m ≡ saved p i v m = rw still in
-        let regs : e' ≡ (registersAfter p (file e) v).e = rw (no 4 (omega arith), top) ee in
+        let regs : e' ≡ (registers_after p (file e) v).e = rw (no 4 (omega arith), top) ee in
         ended p is refl i v 0 v (found_near p v v 0 v el (known.1 4) (λ z. omega (arith, five, z)) (λ _. near.0) near' value (read p v _ (λ z. omega (arith, five, z)) (λ z. omega (arith, five, z)) refl left right)) few w
         (move_out 9 0 v true s (omega arith) few refl) unsaved regs ei es done (λ _. (refl, (λ _ _. refl, λ _ _. refl))) (λ z. (after z, λ _ _. refl))
       where
@@ -198,7 +198,7 @@ module _ (m : Mem) (e : List ℕ) (c : Control) (r : Rest) (h : Kept) (d : List 
         → e' ≡ (stacked (working 9 true k l z v 8 to) (file e)).e → w.rest.eip ≡ to → status_in w.rest.flags ≡ s
         → not (eqb w.status 1) ≡ true → (not (eqb w.status 3) ≡ true → Spared m m' c h.table)
         → (w.status ≡ 0 → (w.rest.eip ≡ next_in f r.eip) × (Agree m m' (h.base / 4096))) → EndedOk m e c r h d f m' e' w
-    unfolding depositOf
+    unfolding deposit_of
     stored k l z v to i u x is put six found few hx hv {m'} w em ee ei es done spared after =
         let p : Fast = working 9 true k l z v 8 to in
         let kept : m' ≡ saved p i v m = em ∙ put_there m p i v refl ∙ saved_all m c h.table p i v put in
@@ -251,7 +251,7 @@ module _ (m : Mem) (e : List ℕ) (c : Control) (r : Rest) (h : Kept) (d : List 
           (to_register 9 (reg e f.a) (reg e f.b) v next true is here.1.a refl v ee) en refl
 
       module _ (k : f.kind / 8 ≡ 4) {x v : ℕ} (o : Short) (ex : x ≡ reg e f.a) (ev : v ≡ dword_at m i) (few : v < 4294967296) (eo : out_in o ≡ out_of (f.kind - 32) true x v s) where
-        by_dword : {e' : List ℕ} → e' ≡ (depositOf (by_memory f (f.kind - 32) e r.eip) (file e) o.value).e → EndedOk m e c r h d f m e' (done_at next o.flags)
+        by_dword : {e' : List ℕ} → e' ≡ (deposit_of (by_memory f (f.kind - 32) e r.eip) (file e) o.value).e → EndedOk m e c r h d f m e' (done_at next o.flags)
         by_dword ee =
             worked (f.kind - 32) (reg e f.a) (reg e f.b) v next true (combines f e r.eip s k) el (λ _. near.0) near.1 ev few o.flags
             (eo ∙ ap (λ (z : ℕ). out_of (f.kind - 32) true z v s) ex) ee en refl
@@ -296,14 +296,14 @@ module _ (m : Mem) (e : List ℕ) (c : Control) (r : Rest) (h : Kept) (d : List 
 
       pub popped_to : (eqb f.kind 67 || eqb f.kind 70) ≡ true → (f.kind ≡ 70 → ⊥) → {next : ℕ} {e' : List ℕ} → next ≡ next_in f r.eip → e' ≡ set e₁ f.a v
           → EndedOk m e c r h d f m e' (done_at next r.flags)
-      unfolding depositOf write_at pop_fast
+      unfolding deposit_of write_at pop_fast
       popped_to h' n {next} en ee' =
           let k = eqb-true f.kind 67 (first_of (eqb f.kind 67) (eqb f.kind 70) h' (ne_eqb f.kind 70 n)) in
           popped 5 f.a v (omega arith) refl (pops f e r.eip s k) el near ev few (done_at next r.flags)
           (rw (lt-ltb f.a 8 here.1.a) (ee' ∙ ap (λ (z : List ℕ). set z f.a v) raised)) en refl refl (λ _. en)
 
       pub returned : f.kind ≡ 70 → EndedOk m e c r h d f m e₁ (record { status = 2; rest = record { eip = v; flags = r.flags } })
-      unfolding depositOf pop_fast
+      unfolding deposit_of pop_fast
       returned k =
           popped 6 8 v (omega arith) refl (goes_back f e r.eip s k) el near ev few (record { status = 2; rest = record { eip = v; flags = r.flags } }) raised refl refl refl (λ z. absurd (apart z))
         where

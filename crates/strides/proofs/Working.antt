@@ -12,7 +12,7 @@ use Rattle.conditions.specs.Conditions.{holds}
 use Rattle.keptpages.specs.declared.Kept.{Kept}
 use Rattle.products.specs.Products.{product}
 use Rattle.outcome.specs.declared.Fast.{Fast}
-use Rattle.outcome.specs.Outcome.{file, out_of, depositOf}
+use Rattle.outcome.specs.Outcome.{file, out_of, deposit_of}
 use Rattle.shortcut.specs.Forms.{taking, jump_fast}
 use Rattle.shortcut.specs.Shortcut.{FastOk}
 use Rattle.forms.specs.declared.Form.{Form}
@@ -99,7 +99,7 @@ module _ (m : Mem) (e : List ℕ) (c : Control) (r : Rest) (h : Kept) (d : List 
     on_next g en ew k = rw (ew, en) (record { swift = k; follows = λ _. (refl, (refl, λ i _. refl)) })
 
     worked : {op x y to n : ℕ} {wide : Bool} {e' : List ℕ} {w : Ended} (o : Short) → meant f e r.eip s ≡ working op wide 0 0 x y to next → out_in o ≡ out_of op wide x y s
-        → e' ≡ (depositOf (working op wide 0 0 x y to next) (file e) o.value).e → n ≡ next → w ≡ ended 0 n o.flags → EndedOk m e c r h d f m e' w
+        → e' ≡ (deposit_of (working op wide 0 0 x y to next) (file e) o.value).e → n ≡ next → w ≡ ended 0 n o.flags → EndedOk m e c r h d f m e' w
     worked {op} {x} {y} {to} {n} {wide} o ep eo ee en ew =
         let p : Fast = working op wide 0 0 x y to next in
         on_next o.flags en ew
@@ -107,8 +107,8 @@ module _ (m : Mem) (e : List ℕ) (c : Control) (r : Rest) (h : Kept) (d : List 
         (record { found = true; at = 0; value = 0; x = x; y = y }) refl (none_reached m c p _ refl refl refl refl) (omega arith) (omega arith) (of_operands p (record { found = true; at = 0; value = 0; x = x; y = y }) s (refl, refl) eo) ee refl refl stands.pages)
 
     -- the result goes to a register, unless it is CMP or TEST
-    put_away : (op x y v : ℕ) (b : Bool) → cond b (set e f.a v) e ≡ (depositOf (working op true 0 0 x y (cond b f.a 8) next) (file e) v).e
-    unfolding depositOf write_at
+    put_away : (op x y v : ℕ) (b : Bool) → cond b (set e f.a v) e ≡ (deposit_of (working op true 0 0 x y (cond b f.a 8) next) (file e) v).e
+    unfolding deposit_of write_at
     put_away op x y v true = rw (lt-ltb f.a 8 here.1.a)
     put_away op x y v false = refl
 
@@ -119,7 +119,7 @@ module _ (m : Mem) (e : List ℕ) (c : Control) (r : Rest) (h : Kept) (d : List 
     -- or nowhere
     pub to_none : {op x y n : ℕ} {wide : Bool} {w : Ended} (o : Short) → meant f e r.eip s ≡ working op wide 0 0 x y 8 next → out_in o ≡ out_of op wide x y s
         → n ≡ next → w ≡ ended 0 n o.flags → EndedOk m e c r h d f m e w
-    unfolding depositOf
+    unfolding deposit_of
     to_none o ep eo en ew = worked o ep eo refl en ew
 
     pub moves : {x y n : ℕ} {e' : List ℕ} {w : Ended} → meant f e r.eip s ≡ working 9 true 0 0 x y f.a next → x < 4294967296 → y < 4294967296

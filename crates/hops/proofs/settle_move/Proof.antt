@@ -1,5 +1,5 @@
 use Rattle.hops.proofs.Swiftly.{few_left, moved_left}
-use Rattle.outcome.specs.Outcome.{depositOf}
+use Rattle.outcome.specs.Outcome.{deposit_of}
 use Rattle.alu.specs.Brief.{status_in}
 use borrow.Author.Rules.{rules}
 use mathlib.Core.Path.{refl, ap, ◌∙◌}
@@ -40,7 +40,7 @@ same-length-3 : tie.Need-same-length-3
 same-length-3 c = search rules
 
 returns-2 : tie.Need-returns-2
-returns-2 c = rw (c.moved2.ensures) (moved_left _ _ (c.before.before.before.before.before.before.before.before.before.before.before.before.before.before.before.before.before.before.args.c) (c.before.before.before.before.before.before.before.before.before.before.before.before.before.before.before.before.before.before.args.table) (c.before.before.before.before.before.before.before.before.before.before.before.before.before.before.before.before.before.before.args.p) (c.before.before.before.before.before.before.before.before.before.before.before.before.before.before.before.before.before.before.args.q) (record { value = (c.before.before.before.before.before.before.before.before.before.before.before.before.before.before.before.before.before.before.args.q.y); status = status_in (c.before.before.before.before.before.before.before.before.before.before.before.before.before.before.before.before.before.before.args.f) }) _ _ (c.before.before.before.before.save.ensures.0) (c.before.before.before.before.save.ensures.1) ((c.before.before.before.before.before.before.before.before.deposit2.ensures) ∙ ap (λ (x : _). (depositOf (c.before.before.before.before.before.before.before.before.before.before.before.before.before.before.before.before.before.before.args.p) (record { e = x }) (c.before.before.before.before.before.before.before.before.before.before.before.before.before.before.before.before.before.before.args.q.y)).e) (c.before.before.before.before.before.before.before.before.before.before.before.before.restack.ensures)) (c.before.next.ensures) refl)
+returns-2 c = rw (c.moved2.ensures) (moved_left _ _ (c.before.before.before.before.before.before.before.before.before.before.before.before.before.before.before.before.before.before.args.c) (c.before.before.before.before.before.before.before.before.before.before.before.before.before.before.before.before.before.before.args.table) (c.before.before.before.before.before.before.before.before.before.before.before.before.before.before.before.before.before.before.args.p) (c.before.before.before.before.before.before.before.before.before.before.before.before.before.before.before.before.before.before.args.q) (record { value = (c.before.before.before.before.before.before.before.before.before.before.before.before.before.before.before.before.before.before.args.q.y); status = status_in (c.before.before.before.before.before.before.before.before.before.before.before.before.before.before.before.before.before.before.args.f) }) _ _ (c.before.before.before.before.save.ensures.0) (c.before.before.before.before.save.ensures.1) ((c.before.before.before.before.before.before.before.before.deposit2.ensures) ∙ ap (λ (x : _). (deposit_of (c.before.before.before.before.before.before.before.before.before.before.before.before.before.before.before.before.before.before.args.p) (record { e = x }) (c.before.before.before.before.before.before.before.before.before.before.before.before.before.before.before.before.before.before.args.q.y)).e) (c.before.before.before.before.before.before.before.before.before.before.before.before.restack.ensures)) (c.before.next.ensures) refl)
 
 pub settle-move-spec : {M : Type 1} → statement M
 settle-move-spec =

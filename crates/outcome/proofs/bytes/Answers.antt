@@ -1,6 +1,6 @@
-use Rattle.outcome.proofs.Effects.{low-bytes}
+use Rattle.outcome.proofs.Effects.{low_bytes}
 use Rattle.std.proofs.Common.{◌∙◌}
 use Rattle.outcome.proofs.bytes.Goals as goal
 
 pub returns : goal.returns
-returns c = (c.on_bytes.ensures) ∙ low-bytes _ _ _ _
+returns c = (c.on_bytes.ensures) ∙ low_bytes _ _ _ _

@@ -1,7 +1,7 @@
-use Rattle.alu.specs.Brief.{statusIn}
+use Rattle.alu.specs.Brief.{status_in}
 use Rattle.alu.specs.Arithmetic.{operation}
-use Rattle.alu.proofs.Operations.{no_number, carryKept}
-use Rattle.outcome.proofs.Effects.{past-ten, numbered, counted-up, counted-down, multiplied, moved_by}
+use Rattle.alu.proofs.Operations.{no_number, carry_kept}
+use Rattle.outcome.proofs.Effects.{past_ten, numbered, counted_up, counted_down, multiplied, moved_by}
 use Rattle.std.proofs.Common.{refl, ap, ◌∙◌, ne_eqb}
 use Rattle.outcome.proofs.dwords.Goals as goal
 
@@ -46,13 +46,13 @@ unfolding operation
 returns-in-9 c = numbered _ _ _ (c.ranges.x) (c.ranges.y) (c.in-9.is) refl refl
 
 pub returns-in-10 : goal.returns-in-10
-returns-in-10 c = counted-up _ _ _ (c.ranges.x) (c.in-10.is) ((c.keep_carry.ensures) ∙ ap (carryKept (statusIn (c.args.f))) (c.add32-in-10.ensures))
+returns-in-10 c = counted_up _ _ _ (c.ranges.x) (c.in-10.is) ((c.keep_carry.ensures) ∙ ap (carry_kept (status_in (c.args.f))) (c.add32-in-10.ensures))
 
 pub returns-in-11 : goal.returns-in-11
-returns-in-11 c = counted-down _ _ _ (c.ranges.x) (c.in-11.is) ((c.keep_carry-in-11.ensures) ∙ ap (carryKept (statusIn (c.args.f))) (c.sub32-in-11.ensures))
+returns-in-11 c = counted_down _ _ _ (c.ranges.x) (c.in-11.is) ((c.keep_carry-in-11.ensures) ∙ ap (carry_kept (status_in (c.args.f))) (c.sub32-in-11.ensures))
 
 pub returns-in-14 : goal.returns-in-14
 returns-in-14 c = multiplied _ _ _ (c.ranges.x) (c.in-14.is) (c.times.ensures)
 
 pub returns-in_default : goal.returns-in_default
-returns-in_default c = moved_by _ _ _ (c.ranges.x) _ (past-ten _ (no_number _ (c.in_default.in_default-own.rest.0.0.0.0)) (c.in_default.in_default-own.rest.0.0.0.1)) (ne_eqb _ _ (c.in_default.in_default-own.rest.0.0.1)) (ne_eqb _ _ (c.in_default.in_default-own.rest.0.1)) (ne_eqb _ _ (c.in_default.in_default-own.rest.1)) (c.shifted.ensures)
+returns-in_default c = moved_by _ _ _ (c.ranges.x) _ (past_ten _ (no_number _ (c.in_default.in_default-own.rest.0.0.0.0)) (c.in_default.in_default-own.rest.0.0.0.1)) (ne_eqb _ _ (c.in_default.in_default-own.rest.0.0.1)) (ne_eqb _ _ (c.in_default.in_default-own.rest.0.1)) (ne_eqb _ _ (c.in_default.in_default-own.rest.1)) (c.shifted.ensures)

@@ -1,6 +1,6 @@
-use Rattle.outcome.specs.Outcome.{lowOut}
+use Rattle.outcome.specs.Outcome.{low_out}
 use Rattle.std.proofs.Common.{ap}
 use Rattle.outcome.proofs.times.Goals as goal
 
 pub returns : goal.returns
-returns c = ap lowOut (c.multiply32-q.ensures)
+returns c = ap low_out (c.multiply32-q.ensures)

@@ -1,10 +1,10 @@
-use Rattle.machine.specs.Record.{writeAt}
+use Rattle.machine.specs.Record.{write_at}
 use Rattle.outcome.proofs.write.Goals as goal
 
 pub returns-then-w : goal.returns-then-w
-unfolding writeAt
+unfolding write_at
 returns-then-w c = rw c.if-w.true c.put.ensures
 
 pub returns : goal.returns
-unfolding writeAt
+unfolding write_at
 returns c = rw c.if-w.false (cc)
