@@ -2,10 +2,10 @@ use borrow.Author.Tests.{not-true, not-false}
 use Rattle.access.proofs.find.Goals as goal
 
 pub returns-then-not-wide : goal.returns-then-not-wide
-returns-then-not-wide c = rw (not-true c.args.wide c.if-not-wide.true) c.single.ensures
+returns-then-not-wide c = rw c.if-not-wide.true c.single.ensures
 
 pub returns-then-l-le4092 : goal.returns-then-l-le4092
-returns-then-l-le4092 c = rw (not-false c.args.wide c.if-not-wide.false) c.near.ensures
+returns-then-l-le4092 c = rw c.if-not-wide.false c.near.ensures
 
 pub returns : goal.returns
-returns c = rw (not-false c.args.wide c.if-not-wide.false) c.across.ensures
+returns c = rw c.if-not-wide.false c.across.ensures

@@ -6,11 +6,11 @@ use Rattle.audit.proofs.audit.Goals as goal
 
 pub returns-then-not-sound : goal.returns-then-not-sound
 unfolding audit need
-returns-then-not-sound c = rw (sym c.sound.ensures ∙ not-true _ c.if-not-sound.true)
+returns-then-not-sound c = rw (sym c.sound.ensures ∙ c.if-not-sound.true)
 
 pub tables-requires : goal.tables-requires
-tables-requires c = (whole_frames _ _ (sym c.sound.ensures ∙ not-false _ c.if-not-sound.false), few_frames _ _ (sym c.sound.ensures ∙ not-false _ c.if-not-sound.false))
+tables-requires c = (whole_frames _ _ (sym c.sound.ensures ∙ c.if-not-sound.false), few_frames _ _ (sym c.sound.ensures ∙ c.if-not-sound.false))
 
 pub returns : goal.returns
 unfolding audit need
-returns c = rw (sym c.sound.ensures ∙ not-false _ c.if-not-sound.false) c.tables.ensures
+returns c = rw (sym c.sound.ensures ∙ c.if-not-sound.false) c.tables.ensures

@@ -10,7 +10,7 @@ pub loop-d-init : goal.loop-d-init
 loop-d-init c = (search rules, start _)
 
 pub open_in-f-requires : goal.open_in-f-requires
-open_in-f-requires c = ((c.requires.0, c.loop-d-test.true), (c.requires.1, c.loop-d.invariant.1))
+open_in-f-requires c = record { sized = (c.requires.0, c.loop-d-test.true); held = (c.requires.1, c.loop-d.invariant.1) }
 
 pub returns-in-At : goal.returns-in-At
 returns-in-At c = stays _ _ _ _ (ap found_of (sym c.in-At.is) ∙ c.open_in-f.ensures) (omega arith)

@@ -9,22 +9,22 @@ use mathlib.Core.Path.{sym, ap, ◌∙◌}
 use Rattle.audit.proofs.tables.Goals as goal
 
 pub returns-then-not-in_memory : goal.returns-then-not-in_memory
-returns-then-not-in_memory c = sym (no_directory _ _ (sym c.in_memory.ensures ∙ not-true _ c.if-not-in_memory.true))
+returns-then-not-in_memory c = sym (no_directory _ _ (sym c.in_memory.ensures ∙ c.if-not-in_memory.true))
 
 pub returns-in-At : goal.returns-in-At
-returns-in-At c = sym (no_table _ _ (sym c.in_memory.ensures ∙ not-false _ c.if-not-in_memory.false) _ (sym c.stray.ensures ∙ ap found_of c.in-At.is))
+returns-in-At c = sym (no_table _ _ (sym c.in_memory.ensures ∙ c.if-not-in_memory.false) _ (sym c.stray.ensures ∙ ap found_of c.in-At.is))
 
 pub raise_all-requires : goal.raise_all-requires
 raise_all-requires c = clear
 
 pub opening-requires : goal.opening-requires
-opening-requires c = ready _ _ _ (record { whole = c.requires.0; small = c.requires.1; dir_in = ltb-true _ _ (sym c.in_memory.ensures ∙ not-false _ c.if-not-in_memory.false); tabs_in = sym c.stray.ensures ∙ ap found_of c.in_default.is }) c.raise_all.ensures
+opening-requires c = ready _ _ _ (record { whole = c.requires.0; small = c.requires.1; dir_in = ltb-true _ _ (sym c.in_memory.ensures ∙ c.if-not-in_memory.false); tabs_in = sym c.stray.ensures ∙ ap found_of c.in_default.is }) c.raise_all.ensures
 
 pub overflow_mul-result : goal.overflow_mul-result
 overflow_mul-result c = let b : c.in-At-opening.p < 1048576 = small _ _ _ (ap found_of (sym c.in-At-opening.is) ∙ c.opening.ensures) in search rules
 
 pub returns-in-At-opening : goal.returns-in-At-opening
-returns-in-At-opening c = sym (opened _ _ (sym c.in_memory.ensures ∙ not-false _ c.if-not-in_memory.false) _ (sym c.stray.ensures ∙ ap found_of c.in_default.is) (sym c.opening.ensures ∙ ap found_of c.in-At-opening.is))
+returns-in-At-opening c = sym (opened _ _ (sym c.in_memory.ensures ∙ c.if-not-in_memory.false) _ (sym c.stray.ensures ∙ ap found_of c.in_default.is) (sym c.opening.ensures ∙ ap found_of c.in-At-opening.is))
 
 pub returns : goal.returns
-returns c = sym (all_safe _ _ (sym c.in_memory.ensures ∙ not-false _ c.if-not-in_memory.false) (sym c.stray.ensures ∙ ap found_of c.in_default.is) (sym c.opening.ensures ∙ ap found_of c.in_default-opening.is))
+returns c = sym (all_safe _ _ (sym c.in_memory.ensures ∙ c.if-not-in_memory.false) (sym c.stray.ensures ∙ ap found_of c.in_default.is) (sym c.opening.ensures ∙ ap found_of c.in_default-opening.is))

@@ -13,4 +13,4 @@ pub returns-then-mem-base : goal.returns-then-mem-base
 returns-then-mem-base c = no_page_ok _ _ _ _ c.no_page-then-mem-base.ensures
 
 pub returns : goal.returns
-returns c = page_stays _ c.args.c c.args.w c.args.l _ (c.entries-e.ensures (not-false _ c.if-not-e.false)) (search rules) c.requires (sym c.usable.ensures ∙ not-false _ c.if-not-usable.false) c.if-mem-base.false
+returns c = page_stays _ c.args.c c.args.w c.args.l _ (c.entries-e.ensures (not-false _ c.if-not-e.false)) (search rules) c.requires (sym c.usable.ensures ∙ c.if-not-usable.false) c.if-mem-base.false

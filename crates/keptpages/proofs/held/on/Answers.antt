@@ -3,4 +3,4 @@ use Rattle.std.proofs.Common.{rules}
 use Rattle.keptpages.proofs.held.on.Goals as goal
 
 pub returns : goal.returns
-returns c = λ m k w h e. found_on (c.args.p) (c.args.l) _ (search rules) (c.wrapping_add_u32.ensures) m k w h e
+returns c = λ m k w h e. found_on (c.args.p) (c.args.l) _ (search rules) (c.wrapping_add_u32.ensures.value) m k w h e
