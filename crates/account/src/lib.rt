@@ -16,7 +16,7 @@ use text::say;
 const ROOM: usize = 1024;
 
 // The rows of all passes. They are handed on by value: a row is written in one place and read in many.
-#[derive(Drop)]
+#[derive(Clone, Copy)]
 pub struct Rows {
     n: [u32; ROOM],
 }

@@ -3,6 +3,7 @@
 
 ghost use Rattle.std.specs.Prelude.{◌≤◌};
 
+use std::alloc::Global;
 use std::io;
 use std::io::Write;
 
@@ -125,4 +126,17 @@ pub fn word_line<W: Write>(out: &mut W, key: &[u8], word: &[u8]) -> io::Result<(
     say(out, b"=")?;
     say(out, word)?;
     end(out)
+}
+
+// What the system says of an error, without the error's number.
+pub fn reason<W: Write>(out: &mut W, alloc: Global, e: io::Error) -> io::Result<()> {
+    let words = e.to_string(alloc)?;
+    let Some(code) = e.raw_os_error() else {
+        return say(out, words.as_bytes());
+    };
+    let number = format!(in alloc; " (os error {code})")?;
+    match words.as_str().strip_suffix(number.as_str()) {
+        Some(only) => say(out, only.as_bytes()),
+        None => say(out, words.as_bytes()),
+    }
 }
