@@ -6,7 +6,7 @@ use crate::{ask, order};
 use given::{Flaw, Parsed};
 use machine::Cpu;
 use std::io;
-use std::io::Read;
+use std::io::{Read, Write};
 
 // The longest record or list of edits.
 pub const TEXT: usize = 16384;
@@ -47,7 +47,7 @@ struct Whole {
     more: bool,
 }
 
-fn whole<R: Read>(file: &mut R, b: &mut [u8]) -> io::Result<Whole>
+fn read_whole<R: Read>(file: &mut R, b: &mut [u8]) -> io::Result<Whole>
     ensures { IfOk result (λ w. w.n ≤ length b.new) }
 {
     let n = fill(file, b)?;
@@ -62,7 +62,7 @@ pub fn read(rt: &HostRuntime, i: usize, b: &mut [u8]) -> io::Result<usize>
     let Some(mut file) = ask::open(rt, i)? else {
         return Ok(0);
     };
-    let w = match whole(&mut file, b) {
+    let w = match read_whole(&mut file, b) {
         Ok(w) => w,
         Err(_) => Whole { n: 0, more: false },
     };
