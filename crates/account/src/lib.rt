@@ -1,10 +1,14 @@
 // The bill: what each pass did, what it cost, and what all came to.
+// A call that answers Ok has written all of its text; where the writer failed, it may have written the start of it.
+#![tactic(auto)]
+
 mod stairs;
 mod table;
 mod verdict;
 
 use journal::Tally;
-use libc::STDOUT_FILENO;
+use std::io;
+use std::io::Write;
 use table::put;
 use text::say;
 
@@ -12,7 +16,7 @@ use text::say;
 const ROOM: usize = 1024;
 
 // The rows of all passes. They are handed on by value: a row is written in one place and read in many.
-#[derive(Drop)]
+#[derive(Clone, Copy)]
 pub struct Rows {
     n: [u32; ROOM],
 }
@@ -50,59 +54,65 @@ pub fn close(r: Rows, pass: u32, t: Tally, before: u32, after: u32) -> Rows {
     Rows { n }
 }
 
-fn told_jitters(n: u32) {
+fn told_jitters<W: Write>(out: &mut W, n: u32) -> io::Result<()> {
     if n != 0 {
-        say(STDOUT_FILENO, b", noise in every last bit");
+        say(out, b", noise in every last bit")?;
     }
-    text::end(STDOUT_FILENO);
+    text::end(out)
 }
 
 // The heading of a pass.
-pub fn begin(r: Rows, pass: u32, plain: bool) {
+pub fn begin<W: Write>(out: &mut W, r: Rows, pass: u32, plain: bool) -> io::Result<()> {
     let rows = r.n;
     if plain {
-        text::count_line(STDOUT_FILENO, b"pass", pass);
-        table::lines(&rows, pass, table::EDITS, table::SENT);
-        return;
+        text::count_line(out, b"pass", pass)?;
+        return table::lines(out, &rows, pass, table::EDITS, table::SENT);
     }
-    say(STDOUT_FILENO, b"pass ");
-    text::decimal(STDOUT_FILENO, pass);
-    say(STDOUT_FILENO, b": ");
+    say(out, b"pass ")?;
+    text::decimal(out, pass)?;
+    say(out, b": ")?;
     text::counted(
-        STDOUT_FILENO,
+        out,
         table::get(&rows, pass, table::EDITS),
         b" edit",
-    );
-    told_jitters(table::get(&rows, pass, table::JITTERS));
+    )?;
+    told_jitters(out, table::get(&rows, pass, table::JITTERS))
 }
 
 // What a pass did, for a script; a person reads it in the table.
-pub fn end(r: Rows, pass: u32, plain: bool) {
+pub fn end<W: Write>(out: &mut W, r: Rows, pass: u32, plain: bool) -> io::Result<()> {
     let rows = r.n;
     if plain {
-        table::lines(&rows, pass, table::SENT, table::AFTER + 1);
+        table::lines(out, &rows, pass, table::SENT, table::AFTER + 1)?;
     }
+    Ok(())
 }
 
 // Table and staircase up to a pass that the guest did not end by itself.
-pub fn break_off(r: Rows, pass: u32) {
+pub fn break_off<W: Write>(out: &mut W, r: Rows, pass: u32) -> io::Result<()> {
     let rows = r.n;
-    table::print(&rows, pass);
-    stairs::print(&rows, pass, false);
-    say(STDOUT_FILENO, b"\nthe bill ends in pass ");
-    text::decimal(STDOUT_FILENO, pass);
-    say(STDOUT_FILENO, b", which the guest did not end by itself\n");
+    table::print(out, &rows, pass)?;
+    stairs::print(out, &rows, pass, false)?;
+    say(out, b"\nthe bill ends in pass ")?;
+    text::decimal(out, pass)?;
+    say(out, b", which the guest did not end by itself\n")
 }
 
 // The whole bill, for a plan of so many waypoints, where the ground has so many of them otherwise than the cabin.
-pub fn sum_up(r: Rows, last: u32, waypoints: u32, differing: u32, plain: bool) {
+pub fn sum_up<W: Write>(
+    out: &mut W,
+    r: Rows,
+    last: u32,
+    waypoints: u32,
+    differing: u32,
+    plain: bool,
+) -> io::Result<()> {
     let rows = r.n;
     let landed = (table::get(&rows, last, table::SENT) == 0) & (differing == 0);
     if plain {
-        verdict::lines(&rows, last, differing, landed);
-        return;
+        return verdict::lines(out, &rows, last, differing, landed);
     }
-    table::print(&rows, last);
-    stairs::print(&rows, last, landed);
-    verdict::print(&rows, last, waypoints, differing);
+    table::print(out, &rows, last)?;
+    stairs::print(out, &rows, last, landed)?;
+    verdict::print(out, &rows, last, waypoints, differing)
 }

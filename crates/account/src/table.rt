@@ -1,5 +1,6 @@
 // What each pass did, a row of numbers each, and the table of it.
-use libc::STDOUT_FILENO;
+use std::io;
+use std::io::Write;
 use text::say;
 
 // The columns of a row, in the order in which they are written.
@@ -63,69 +64,72 @@ fn width(column: u32) -> u32 {
     }
 }
 
-fn key(column: u32) {
+fn key<W: Write>(out: &mut W, column: u32) -> io::Result<()> {
     match column {
-        EDITS => say(STDOUT_FILENO, b"edits="),
-        JITTERS => say(STDOUT_FILENO, b"jitters="),
-        CHANGED => say(STDOUT_FILENO, b"changed="),
-        SENT => say(STDOUT_FILENO, b"sent="),
-        BYTES => say(STDOUT_FILENO, b"bytes="),
-        STEPS => say(STDOUT_FILENO, b"steps="),
-        OWN => say(STDOUT_FILENO, b"frames.own="),
-        MARKS => say(STDOUT_FILENO, b"frames.marks="),
-        OTHER => say(STDOUT_FILENO, b"frames.other="),
-        BEFORE => say(STDOUT_FILENO, b"audit_before="),
-        _ => say(STDOUT_FILENO, b"audit_after="),
+        EDITS => say(out, b"edits="),
+        JITTERS => say(out, b"jitters="),
+        CHANGED => say(out, b"changed="),
+        SENT => say(out, b"sent="),
+        BYTES => say(out, b"bytes="),
+        STEPS => say(out, b"steps="),
+        OWN => say(out, b"frames.own="),
+        MARKS => say(out, b"frames.marks="),
+        OTHER => say(out, b"frames.other="),
+        BEFORE => say(out, b"audit_before="),
+        _ => say(out, b"audit_after="),
     }
 }
 
-fn audit(n: u32) {
+fn audit<W: Write>(out: &mut W, n: u32) -> io::Result<()> {
     match n {
-        4 => say(STDOUT_FILENO, b"4 Bad record"),
-        8 => say(STDOUT_FILENO, b"8 Safe"),
-        9 => say(STDOUT_FILENO, b"9 Table outside"),
-        _ => say(STDOUT_FILENO, b"10 Exposed"),
+        4 => say(out, b"4 Bad record"),
+        8 => say(out, b"8 Safe"),
+        9 => say(out, b"9 Table outside"),
+        _ => say(out, b"10 Exposed"),
     }
 }
 
-fn counts(rows: &[u32], pass: u32) {
+fn counts<W: Write>(out: &mut W, rows: &[u32], pass: u32) -> io::Result<()> {
     let mut column: u32 = 0;
     while column < BEFORE {
-        text::column(STDOUT_FILENO, get(rows, pass, column), width(column));
+        text::column(out, get(rows, pass, column), width(column))?;
         column += 1;
     }
+    Ok(())
 }
 
-fn row(rows: &[u32], pass: u32) {
-    text::column(STDOUT_FILENO, pass, 4);
-    counts(rows, pass);
-    say(STDOUT_FILENO, b"  ");
-    audit(get(rows, pass, BEFORE));
-    say(STDOUT_FILENO, b", ");
-    audit(get(rows, pass, AFTER));
-    text::end(STDOUT_FILENO);
+fn row<W: Write>(out: &mut W, rows: &[u32], pass: u32) -> io::Result<()> {
+    text::column(out, pass, 4)?;
+    counts(out, rows, pass)?;
+    say(out, b"  ")?;
+    audit(out, get(rows, pass, BEFORE))?;
+    say(out, b", ")?;
+    audit(out, get(rows, pass, AFTER))?;
+    text::end(out)
 }
 
 // The passes up to the last, below a heading.
-pub fn print(rows: &[u32], last: u32) {
+pub fn print<W: Write>(out: &mut W, rows: &[u32], last: u32) -> io::Result<()> {
     say(
-        STDOUT_FILENO,
+        out,
         b"\n                                                    frames changed\npass  edits  jitter  changed  sent  bytes   steps   own  marks  other  audit before, after\n",
-    );
+    )?;
     let mut pass: u32 = 0;
     while pass < last {
         pass += 1;
-        row(rows, pass);
+        row(out, rows, pass)?;
     }
+    Ok(())
 }
 
 // What a pass did, as `key=value` lines, from this column on.
-pub fn lines(rows: &[u32], pass: u32, from: u32, to: u32) {
+pub fn lines<W: Write>(out: &mut W, rows: &[u32], pass: u32, from: u32, to: u32) -> io::Result<()> {
     let mut column = from;
     while column < to {
-        key(column);
-        text::decimal(STDOUT_FILENO, get(rows, pass, column));
-        text::end(STDOUT_FILENO);
+        key(out, column)?;
+        text::decimal(out, get(rows, pass, column))?;
+        text::end(out)?;
         column += 1;
     }
+    Ok(())
 }

@@ -1,12 +1,13 @@
 // What the passes came to: a pass that sent more than it should, the total, and whether the ground has the cabin's plan.
 use crate::table;
-use libc::STDOUT_FILENO;
+use std::io;
+use std::io::Write;
 use text::{decimal, say};
 
-fn amount(waypoints: u32, bytes: u32) {
-    text::counted(STDOUT_FILENO, waypoints, b" waypoint");
-    say(STDOUT_FILENO, b", ");
-    text::counted(STDOUT_FILENO, bytes, b" byte");
+fn amount<W: Write>(out: &mut W, waypoints: u32, bytes: u32) -> io::Result<()> {
+    text::counted(out, waypoints, b" waypoint")?;
+    say(out, b", ")?;
+    text::counted(out, bytes, b" byte")
 }
 
 // The whole plan was sent although nothing changed.
@@ -15,97 +16,112 @@ fn is_waste(rows: &[u32], pass: u32, waypoints: u32) -> bool {
         & (table::get(rows, pass, table::SENT) == waypoints)
 }
 
-fn warn_of_waste(rows: &[u32], pass: u32, sent: u32) {
+fn warn_of_waste<W: Write>(out: &mut W, rows: &[u32], pass: u32, sent: u32) -> io::Result<()> {
     say(
-        STDOUT_FILENO,
+        out,
         b" sent the whole plan although nothing changed: ",
-    );
-    amount(sent, table::get(rows, pass, table::BYTES));
+    )?;
+    amount(out, sent, table::get(rows, pass, table::BYTES))?;
     if table::get(rows, pass, table::JITTERS) != 0 {
-        say(STDOUT_FILENO, b" for noise in the last bit");
+        say(out, b" for noise in the last bit")?;
     }
+    Ok(())
 }
 
-fn warn_of_difference(sent: u32, changed: u32) {
-    say(STDOUT_FILENO, b" sent ");
-    text::counted(STDOUT_FILENO, sent, b" waypoint");
-    say(STDOUT_FILENO, b" where ");
-    decimal(STDOUT_FILENO, changed);
-    say(STDOUT_FILENO, b" had changed");
+fn warn_of_difference<W: Write>(out: &mut W, sent: u32, changed: u32) -> io::Result<()> {
+    say(out, b" sent ")?;
+    text::counted(out, sent, b" waypoint")?;
+    say(out, b" where ")?;
+    decimal(out, changed)?;
+    say(out, b" had changed")
 }
 
-fn warn(rows: &[u32], pass: u32, waypoints: u32) {
+fn warn<W: Write>(out: &mut W, rows: &[u32], pass: u32, waypoints: u32) -> io::Result<()> {
     let sent = table::get(rows, pass, table::SENT);
     let changed = table::get(rows, pass, table::CHANGED);
     if sent == changed {
-        return;
+        return Ok(());
     }
-    say(STDOUT_FILENO, b"pass ");
-    decimal(STDOUT_FILENO, pass);
+    say(out, b"pass ")?;
+    decimal(out, pass)?;
     if is_waste(rows, pass, waypoints) {
-        warn_of_waste(rows, pass, sent);
+        warn_of_waste(out, rows, pass, sent)?;
     } else {
-        warn_of_difference(sent, changed);
+        warn_of_difference(out, sent, changed)?;
     }
-    text::end(STDOUT_FILENO);
+    text::end(out)
 }
 
-fn warnings(rows: &[u32], last: u32, waypoints: u32) {
+fn warnings<W: Write>(out: &mut W, rows: &[u32], last: u32, waypoints: u32) -> io::Result<()> {
     let mut pass: u32 = 0;
     while pass < last {
         pass += 1;
-        warn(rows, pass, waypoints);
+        warn(out, rows, pass, waypoints)?;
     }
+    Ok(())
 }
 
-fn total(rows: &[u32], last: u32) {
-    say(STDOUT_FILENO, b"total: ");
+fn total<W: Write>(out: &mut W, rows: &[u32], last: u32) -> io::Result<()> {
+    say(out, b"total: ")?;
     amount(
+        out,
         table::sum(rows, table::SENT, last),
         table::sum(rows, table::BYTES, last),
-    );
-    say(STDOUT_FILENO, b" in ");
-    decimal(STDOUT_FILENO, last);
-    say(STDOUT_FILENO, b" passes\n");
+    )?;
+    say(out, b" in ")?;
+    decimal(out, last)?;
+    say(out, b" passes\n")
 }
 
-fn ground(differing: u32, waypoints: u32) {
+fn ground<W: Write>(out: &mut W, differing: u32, waypoints: u32) -> io::Result<()> {
     if differing == 0 {
         say(
-            STDOUT_FILENO,
+            out,
             b"the ground's plan agrees with the cabin's in all ",
-        );
+        )?;
     } else {
         say(
-            STDOUT_FILENO,
+            out,
             b"the ground's plan differs from the cabin's in ",
-        );
-        decimal(STDOUT_FILENO, differing);
-        say(STDOUT_FILENO, b" of ");
+        )?;
+        decimal(out, differing)?;
+        say(out, b" of ")?;
     }
-    decimal(STDOUT_FILENO, waypoints);
-    say(STDOUT_FILENO, b" waypoints (last bit aside)\n");
+    decimal(out, waypoints)?;
+    say(out, b" waypoints (last bit aside)\n")
 }
 
-pub fn lines(rows: &[u32], last: u32, differing: u32, landed: bool) {
-    text::count_line(STDOUT_FILENO, b"total.passes", last);
+pub fn lines<W: Write>(
+    out: &mut W,
+    rows: &[u32],
+    last: u32,
+    differing: u32,
+    landed: bool,
+) -> io::Result<()> {
+    text::count_line(out, b"total.passes", last)?;
     text::count_line(
-        STDOUT_FILENO,
+        out,
         b"total.sent",
         table::sum(rows, table::SENT, last),
-    );
+    )?;
     text::count_line(
-        STDOUT_FILENO,
+        out,
         b"total.bytes",
         table::sum(rows, table::BYTES, last),
-    );
-    text::count_line(STDOUT_FILENO, b"ground.differing", differing);
-    text::count_line(STDOUT_FILENO, b"landing", if landed { 1 } else { 0 });
+    )?;
+    text::count_line(out, b"ground.differing", differing)?;
+    text::count_line(out, b"landing", if landed { 1 } else { 0 })
 }
 
-pub fn print(rows: &[u32], last: u32, waypoints: u32, differing: u32) {
-    text::end(STDOUT_FILENO);
-    warnings(rows, last, waypoints);
-    total(rows, last);
-    ground(differing, waypoints);
+pub fn print<W: Write>(
+    out: &mut W,
+    rows: &[u32],
+    last: u32,
+    waypoints: u32,
+    differing: u32,
+) -> io::Result<()> {
+    text::end(out)?;
+    warnings(out, rows, last, waypoints)?;
+    total(out, rows, last)?;
+    ground(out, differing, waypoints)
 }

@@ -1,4 +1,6 @@
 // Elements of a slice by their number, whatever the number: past the end there are zeros, and nothing is stored there.
+#![tactic(auto)]
+
 ghost use Rattle.std.specs.Prelude.{◌≡◌, ◌<◌, get_or, set};
 ghost use Rattle.cells.specs.Cells.{dword_in, with_dword, copied};
 

@@ -7,50 +7,59 @@ use given::{Listed, Slip};
 use journal::{Tally, Voice};
 use machine::Cpu;
 use pass::Passed;
+use std::io;
 use waypoints::{Found, Plan};
 
-fn no_plan(f: Found) {
+fn no_plan(rt: &HostRuntime, f: Found) -> io::Result<()> {
     match f {
-        Found::Here(_) => {}
+        Found::Here(_) => Ok(()),
         Found::NoMark => ask::complain(
+            rt,
             order::IMAGE,
             b"no plan: the dword at 00004000 is not the mark PLAN",
         ),
         Found::Count(_) => ask::complain(
+            rt,
             order::IMAGE,
             b"no plan: the records name no number of waypoints from 1 to 4096",
         ),
         Found::Outside(_) => ask::complain(
+            rt,
             order::IMAGE,
             b"no plan: the records name a place past the end of memory",
         ),
     }
 }
 
-fn slip(n: u32, s: Slip) {
+fn slip(rt: &HostRuntime, n: u32, s: Slip) -> io::Result<()> {
     match s {
         Slip::Pass => ask::complain_of_line(
+            rt,
             order::EDITS,
             n,
             b"a line begins with a pass from 1 to 63",
         ),
         Slip::Waypoint => ask::complain_of_line(
+            rt,
             order::EDITS,
             n,
             b"after the pass stands jitter or a waypoint of the plan",
         ),
         Slip::Axis => ask::complain_of_line(
+            rt,
             order::EDITS,
             n,
             b"after the waypoint stands lat or lon",
         ),
         Slip::Delta => ask::complain_of_line(
+            rt,
             order::EDITS,
             n,
             b"the change is a decimal number up to 4294967295, with or without a sign",
         ),
-        Slip::Jitter => ask::complain_of_line(order::EDITS, n, b"jitter is -1 or 1"),
+        Slip::Jitter => ask::complain_of_line(rt, order::EDITS, n, b"jitter is -1 or 1"),
         Slip::MoreAfter => ask::complain_of_line(
+            rt,
             order::EDITS,
             n,
             b"there is more after the change",
@@ -59,7 +68,7 @@ fn slip(n: u32, s: Slip) {
 }
 
 // What is due before a pass.
-#[derive(Drop)]
+#[derive(Clone, Copy)]
 struct Due {
     edits: u32,
     jitters: u32,
@@ -78,7 +87,7 @@ fn edit(mem: &mut [u8], ground: &[u8], s: &[u8], p: Plan, pass: u32) -> Due {
 }
 
 // A pass, what the audits said before and after it, and the frames that it changed.
-#[derive(Drop)]
+#[derive(Clone, Copy)]
 struct Played {
     passed: Passed,
     before: u32,
@@ -87,21 +96,36 @@ struct Played {
 }
 
 // What is seen of memory after a pass.
-fn seen(mem: &[u8], copies: &[u8], k: Kept, before: u32, r: Passed) -> Played {
+fn seen(
+    rt: &HostRuntime,
+    mem: &[u8],
+    copies: &[u8],
+    k: Kept,
+    before: u32,
+    r: Passed,
+) -> io::Result<Played> {
     let e = r.cpu;
     let slots = k.slots;
     let after = journal::number(micro32::audit(e, mem));
-    let tally = journal::frames(Voice::Silent, mem, e.control, copies, &slots);
-    Played {
+    let tally = journal::frames(
+        &mut rt.stdout(),
+        Voice::Silent,
+        mem,
+        e.control,
+        copies,
+        &slots,
+    )?;
+    Ok(Played {
         passed: r,
         before,
         after,
         tally,
-    }
+    })
 }
 
 // Plays one pass, with an audit before and after.
 fn play(
+    rt: &HostRuntime,
     mem: &mut [u8],
     ground: &mut [u8],
     copies: &[u8],
@@ -109,11 +133,19 @@ fn play(
     waypoints: u32,
     c: Cpu,
     o: Order,
-) -> Played {
+) -> io::Result<Played> {
     let before = journal::number(micro32::audit(c, mem));
     let v = report::voice(o.plain);
-    let r = pass::play(mem, ground, waypoints, c, o.budget, v);
-    seen(mem, copies, k, before, r)
+    let r = pass::play(
+        &mut rt.stdout(),
+        mem,
+        ground,
+        waypoints,
+        c,
+        o.budget,
+        v,
+    )?;
+    seen(rt, mem, copies, k, before, r)
 }
 
 // The rows with that of the pass closed.
@@ -126,19 +158,29 @@ fn closed(rows: Rows, pass: u32, y: Played) -> Rows {
 }
 
 // A pass that the guest did not end by itself: why, and whether the kernel's records were touched.
-fn stopped(mem: &[u8], rows: Rows, copies: &[u8], k: Kept, r: Passed, pass: u32, plain: bool) {
+fn stopped(
+    rt: &HostRuntime,
+    mem: &[u8],
+    rows: Rows,
+    copies: &[u8],
+    k: Kept,
+    r: Passed,
+    pass: u32,
+    plain: bool,
+) -> io::Result<()> {
+    let mut out = rt.stdout();
     if !plain {
-        account::break_off(rows, pass);
+        account::break_off(&mut out, rows, pass)?;
         let c = r.cpu;
         let q = r.reply;
-        report::reply(mem, c, q, plain);
+        report::reply(&mut out, mem, c, q, plain)?;
     }
     let slots = k.slots;
-    report::records(mem, copies, &slots, plain);
+    report::records(&mut out, mem, copies, &slots, plain)
 }
 
 // Whether there is a next pass, the record that it begins with, and the rows so far.
-#[derive(Drop)]
+#[derive(Clone, Copy)]
 struct Next {
     goes_on: bool,
     cpu: Cpu,
@@ -146,28 +188,39 @@ struct Next {
 }
 
 // Tells what came of a pass.
-fn tell(mem: &[u8], rows: Rows, copies: &[u8], k: Kept, r: Passed, pass: u32, plain: bool) -> Next {
-    account::end(rows, pass, plain);
+fn tell(
+    rt: &HostRuntime,
+    mem: &[u8],
+    rows: Rows,
+    copies: &[u8],
+    k: Kept,
+    r: Passed,
+    pass: u32,
+    plain: bool,
+) -> io::Result<Next> {
+    let mut out = rt.stdout();
+    account::end(&mut out, rows, pass, plain)?;
     let c = r.cpu;
     let q = r.reply;
-    report::reply(mem, c, q, plain);
+    report::reply(&mut out, mem, c, q, plain)?;
     if !pass::is_end(q) {
-        stopped(mem, rows, copies, k, r, pass, plain);
-        return Next {
+        stopped(rt, mem, rows, copies, k, r, pass, plain)?;
+        return Ok(Next {
             goes_on: false,
             cpu: c,
             rows,
-        };
+        });
     }
-    Next {
+    Ok(Next {
         goes_on: true,
         cpu: pass::after(c, q),
         rows,
-    }
+    })
 }
 
 // Plays one pass, and tells what came of it.
 fn play_and_tell(
+    rt: &HostRuntime,
     mem: &mut [u8],
     ground: &mut [u8],
     rows: Rows,
@@ -177,15 +230,17 @@ fn play_and_tell(
     c: Cpu,
     o: Order,
     pass: u32,
-) -> Next {
-    account::begin(rows, pass, o.plain);
-    let y = play(mem, ground, copies, k, waypoints, c, o);
+) -> io::Result<Next> {
+    account::begin(&mut rt.stdout(), rows, pass, o.plain)?;
+    let y = play(rt, mem, ground, copies, k, waypoints, c, o)?;
     let r = y.passed;
-    tell(mem, closed(rows, pass, y), copies, k, r, pass, o.plain)
+    let with_pass = closed(rows, pass, y);
+    tell(rt, mem, with_pass, copies, k, r, pass, o.plain)
 }
 
 // One pass with all that belongs to it: its edits, its row, and the copy of memory that it is compared with.
 fn turn(
+    rt: &HostRuntime,
     mem: &mut [u8],
     ground: &mut [u8],
     before: Rows,
@@ -195,22 +250,23 @@ fn turn(
     cpu: Cpu,
     o: Order,
     pass: u32,
-) -> Next {
+) -> io::Result<Next> {
     let d = edit(mem, ground, s, p, pass);
     let rows = account::open(before, pass, d.edits, d.jitters, d.changed);
-    let k = run::remembered(mem, copies);
+    let k = run::remembered(rt, mem, copies)?;
     if !k.fits {
-        return Next {
+        return Ok(Next {
             goes_on: false,
             cpu,
             rows,
-        };
+        });
     }
-    play_and_tell(mem, ground, rows, copies, k, p.waypoints, cpu, o, pass)
+    play_and_tell(rt, mem, ground, rows, copies, k, p.waypoints, cpu, o, pass)
 }
 
 // All passes, or up to the first that the guest does not end by itself.
 fn passes(
+    rt: &HostRuntime,
     mem: &mut [u8],
     ground: &mut [u8],
     copies: &mut [u8],
@@ -219,15 +275,15 @@ fn passes(
     c: Cpu,
     o: Order,
     last: u32,
-) {
+) -> io::Result<()> {
     let mut cpu = c;
     let mut rows = account::blank();
     let mut pass: u32 = 0;
     while pass < last {
         pass += 1;
-        let n = turn(mem, ground, rows, copies, s, p, cpu, o, pass);
+        let n = turn(rt, mem, ground, rows, copies, s, p, cpu, o, pass)?;
         if !n.goes_on {
-            return;
+            return Ok(());
         }
         let next = n.cpu;
         cpu = next;
@@ -235,46 +291,80 @@ fn passes(
         rows = so_far;
     }
     let differing = waypoints::differing(mem, p, ground);
-    account::sum_up(rows, last, p.waypoints, differing, o.plain);
+    account::sum_up(
+        &mut rt.stdout(),
+        rows,
+        last,
+        p.waypoints,
+        differing,
+        o.plain,
+    )
 }
 
 // The passes that the edits name and one more, from a ground that has the plan as it was last sent.
-fn begin(mem: &mut [u8], copies: &mut [u8], s: &[u8], p: Plan, c: Cpu, o: Order, last: u32) {
+fn begin(
+    rt: &HostRuntime,
+    mem: &mut [u8],
+    copies: &mut [u8],
+    s: &[u8],
+    p: Plan,
+    c: Cpu,
+    o: Order,
+    last: u32,
+) -> io::Result<()> {
     let mut ground = [0u8; 65536];
     waypoints::seed(mem, p, &mut ground);
-    passes(mem, &mut ground, copies, s, p, c, o, last);
+    passes(rt, mem, &mut ground, copies, s, p, c, o, last)
 }
 
 // The plan and the edits must both be good before anything is run.
-fn check(mem: &mut [u8], copies: &mut [u8], s: &[u8], c: Cpu, o: Order) {
+fn check(
+    rt: &HostRuntime,
+    mem: &mut [u8],
+    copies: &mut [u8],
+    s: &[u8],
+    c: Cpu,
+    o: Order,
+) -> io::Result<()> {
     let f = waypoints::find(mem);
     let Found::Here(p) = f else {
-        no_plan(f);
-        return;
+        return no_plan(rt, f);
     };
     match given::check_edits(s, p.waypoints) {
-        Listed::Good(last) => begin(mem, copies, s, p, c, o, std::num::wrapping_add_u32(last, 1)),
-        Listed::Bad(n, l) => slip(n, l),
+        Listed::Good(last) => {
+            let passes = std::num::wrapping_add_u32(last, 1);
+            begin(rt, mem, copies, s, p, c, o, passes)
+        }
+        Listed::Bad(n, l) => slip(rt, n, l),
     }
 }
 
 // The edits are the first n bytes of s.
-fn check_in(mem: &mut [u8], copies: &mut [u8], s: &[u8], n: usize, c: Cpu, o: Order) {
+fn check_in(
+    rt: &HostRuntime,
+    mem: &mut [u8],
+    copies: &mut [u8],
+    s: &[u8],
+    n: usize,
+    c: Cpu,
+    o: Order,
+) -> io::Result<()> {
     if n <= s.len() {
-        check(mem, copies, &s[0..n], c, o);
+        check(rt, mem, copies, &s[0..n], c, o)?;
     }
+    Ok(())
 }
 
-pub fn bill(mem: &mut [u8], copies: &mut [u8], o: Order) {
-    let r = files::prepare(mem, o);
+pub fn bill(rt: &HostRuntime, mem: &mut [u8], copies: &mut [u8], o: Order) -> io::Result<()> {
+    let r = files::prepare(rt, mem, o)?;
     if !r.good {
-        return;
+        return Ok(());
     }
     let mut s = [0u8; files::TEXT];
-    let n = files::read(order::EDITS, &mut s);
+    let n = files::read(rt, order::EDITS, &mut s)?;
     if n == 0 {
-        return;
+        return Ok(());
     }
     let c = r.cpu;
-    check_in(mem, copies, &s, n, c, o);
+    check_in(rt, mem, copies, &s, n, c, o)
 }

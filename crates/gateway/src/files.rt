@@ -1,77 +1,120 @@
 // The files that an order names, read whole; a sentence where one cannot be used.
+ghost use Rattle.std.specs.Prelude.{◌≤◌, IfOk, length};
+
 use crate::order::Order;
 use crate::{ask, order};
 use given::{Flaw, Parsed};
-use libc::STDERR_FILENO;
 use machine::Cpu;
+use std::io;
+use std::io::{Read, Write};
 
 // The longest record or list of edits.
 pub const TEXT: usize = 16384;
 
 // A machine that is ready to run, or none.
-#[derive(Drop)]
+#[derive(Clone, Copy)]
 pub struct Ready {
     pub good: bool,
     pub cpu: Cpu,
     pub bytes: u32,
 }
 
+// Reads until b is full or the file ends, and answers how many bytes stand at b's start.
+fn fill<R: Read>(file: &mut R, b: &mut [u8]) -> io::Result<usize>
+    ensures { IfOk result (λ n. n ≤ length b.new) }
+{
+    let mut done: usize = 0;
+    while done < b.len() {
+        let n = file.read(&mut b[done..])?;
+        if n == 0 {
+            return Ok(done);
+        }
+        done += n;
+    }
+    Ok(done)
+}
+
 // Is there a byte more to read?
-fn has_more(fd: i32) -> bool {
+fn has_more<R: Read>(file: &mut R) -> io::Result<bool> {
     let mut b = [0u8; 1];
-    io::read_full(fd, &mut b) == 1
+    Ok(fill(file, &mut b)? == 1)
+}
+
+// The bytes of a file that stand at the start of a buffer, and whether there are more.
+#[derive(Clone, Copy)]
+struct Whole {
+    n: usize,
+    more: bool,
+}
+
+fn read_whole<R: Read>(file: &mut R, b: &mut [u8]) -> io::Result<Whole>
+    ensures { IfOk result (λ w. w.n ≤ length b.new) }
+{
+    let n = fill(file, b)?;
+    let more = has_more(file)?;
+    Ok(Whole { n, more })
 }
 
 // Reads the file that argument i names to the start of b. Answers its length; 0 where it cannot be used, once that is said.
-pub fn read(i: usize, b: &mut [u8]) -> usize {
-    let fd = ask::open(i);
-    if fd < 0 {
-        return 0;
+pub fn read(rt: &HostRuntime, i: usize, b: &mut [u8]) -> io::Result<usize>
+    ensures { IfOk result (λ n. n ≤ length b.new) }
+{
+    let Some(mut file) = ask::open(rt, i)? else {
+        return Ok(0);
+    };
+    let w = match read_whole(&mut file, b) {
+        Ok(w) => w,
+        Err(_) => Whole { n: 0, more: false },
+    };
+    if w.n == 0 {
+        ask::complain(rt, i, b"the file is empty, or cannot be read")?;
+        return Ok(0);
     }
-    let n = io::read_full(fd, b);
-    let more = has_more(fd);
-    libc::close(fd);
-    if n == 0 {
-        ask::complain(i, b"the file is empty, or cannot be read");
-        return 0;
+    if w.more {
+        ask::begin(rt, i)?;
+        let mut err = rt.stderr();
+        text::say(
+            &mut err,
+            b"the file does not fit; there is room for ",
+        )?;
+        write!(err, "{}", w.n)?;
+        text::say(&mut err, b" bytes\n")?;
+        return Ok(0);
     }
-    if more {
-        ask::begin(i);
-        text::say(STDERR_FILENO, b"the file does not fit; there is room for ");
-        io::print_decimal(STDERR_FILENO, n as u64);
-        text::say(STDERR_FILENO, b" bytes\n");
-        return 0;
-    }
-    n
+    Ok(w.n)
 }
 
-fn load(mem: &mut [u8], at: usize) -> usize {
+fn load(rt: &HostRuntime, mem: &mut [u8], at: usize) -> io::Result<usize> {
     if at < mem.len() {
-        return read(order::IMAGE, &mut mem[at..]);
+        return read(rt, order::IMAGE, &mut mem[at..]);
     }
-    0
+    Ok(0)
 }
 
-fn flaw(n: u32, f: Flaw) {
+fn flaw(rt: &HostRuntime, n: u32, f: Flaw) -> io::Result<()> {
     match f {
-        Flaw::Nothing => {}
+        Flaw::Nothing => Ok(()),
         Flaw::UnknownName => ask::complain_of_line(
+            rt,
             order::RECORD,
             n,
             b"no such name; there are EAX ECX EDX EBX ESP EBP ESI EDI EIP EFLAGS CR0 CR2 CR3 RING",
         ),
         Flaw::NamedTwice => ask::complain_of_line(
+            rt,
             order::RECORD,
             n,
             b"this name has a value already",
         ),
-        Flaw::NoValue => ask::complain_of_line(order::RECORD, n, b"the name has no value"),
+        Flaw::NoValue => ask::complain_of_line(rt, order::RECORD, n, b"the name has no value"),
         Flaw::BadValue => ask::complain_of_line(
+            rt,
             order::RECORD,
             n,
             b"the value is not one to eight hexadecimal digits",
         ),
         Flaw::MoreAfter => ask::complain_of_line(
+            rt,
             order::RECORD,
             n,
             b"there is more after the value",
@@ -79,11 +122,12 @@ fn flaw(n: u32, f: Flaw) {
     }
 }
 
-fn unsound(c: Cpu) {
-    ask::begin(order::RECORD);
-    text::say(STDERR_FILENO, b"the record is not sound: ");
-    journal::unsound(STDERR_FILENO, c);
-    text::end(STDERR_FILENO);
+fn unsound(rt: &HostRuntime, c: Cpu) -> io::Result<()> {
+    ask::begin(rt, order::RECORD)?;
+    let mut err = rt.stderr();
+    text::say(&mut err, b"the record is not sound: ")?;
+    journal::unsound(&mut err, c)?;
+    text::end(&mut err)
 }
 
 fn readied(good: bool, cpu: Cpu, bytes: u32) -> Ready {
@@ -91,19 +135,19 @@ fn readied(good: bool, cpu: Cpu, bytes: u32) -> Ready {
 }
 
 // The record from its file, sound for this memory; bytes is handed on.
-fn record(s: &[u8], size: usize, bytes: u32) -> Ready {
+fn record(rt: &HostRuntime, s: &[u8], size: usize, bytes: u32) -> io::Result<Ready> {
     let r = given::record_of(s);
     let c = r.cpu;
     let p = r.parsed;
     if let Parsed::Bad(n, f) = p {
-        flaw(n, f);
-        return readied(false, c, bytes);
+        flaw(rt, n, f)?;
+        return Ok(readied(false, c, bytes));
     }
     if !machine::sound(size, c) {
-        unsound(c);
-        return readied(false, c, bytes);
+        unsound(rt, c)?;
+        return Ok(readied(false, c, bytes));
     }
-    readied(true, c, bytes)
+    Ok(readied(true, c, bytes))
 }
 
 fn nothing() -> Ready {
@@ -113,23 +157,35 @@ fn nothing() -> Ready {
 }
 
 // The record in the first n bytes of b.
-fn record_in(b: &[u8], n: usize, size: usize, bytes: u32) -> Ready {
+fn record_in(
+    rt: &HostRuntime,
+    b: &[u8],
+    n: usize,
+    size: usize,
+    bytes: u32,
+) -> io::Result<Ready> {
     if n <= b.len() {
-        return record(&b[0..n], size, bytes);
+        return record(rt, &b[0..n], size, bytes);
     }
-    nothing()
+    Ok(nothing())
 }
 
 // Puts the image in memory and reads the record.
-pub fn prepare(mem: &mut [u8], o: Order) -> Ready {
-    let bytes = load(mem, o.load as usize);
+pub fn prepare(rt: &HostRuntime, mem: &mut [u8], o: Order) -> io::Result<Ready> {
+    let bytes = load(rt, mem, o.load as usize)?;
     if bytes == 0 {
-        return nothing();
+        return Ok(nothing());
     }
     let mut b = [0u8; TEXT];
-    let n = read(order::RECORD, &mut b);
+    let n = read(rt, order::RECORD, &mut b)?;
     if n == 0 {
-        return nothing();
+        return Ok(nothing());
     }
-    record_in(&b, n, mem.len(), (bytes % 4294967296) as u32)
+    record_in(
+        rt,
+        &b,
+        n,
+        mem.len(),
+        (bytes % 4294967296) as u32,
+    )
 }

@@ -1,50 +1,63 @@
 // The gateway: runs a guest on the proved machine, answers its interrupts, and writes the log or the bill of what it sent.
+// What it refuses it says on standard error; a read or a write that fails ends it with status 1.
+#![tactic(auto)]
+
 mod ask;
 mod bill;
 mod files;
 mod order;
 mod run;
 
-use libc::STDOUT_FILENO;
 use order::Asked;
+use std::io;
 
-fn help() {
+// The bytes of the largest memory, and room for the copies of 960 frames of it.
+const LARGEST: usize = 4194304;
+
+const COPIES: usize = 3932160;
+
+fn help(rt: &HostRuntime) -> io::Result<()> {
     text::say(
-        STDOUT_FILENO,
+        &mut rt.stdout(),
         b"gateway run IMAGE LOAD RECORD BUDGET SIZE [--plain]\n  one pass of the guest in IMAGE, and the log of it\ngateway bill IMAGE LOAD RECORD BUDGET SIZE EDITS [--plain]\n  passes with edits in between, and what they cost\n\nIMAGE is put at the address LOAD in a memory of SIZE bytes. RECORD names the registers, a name and a hexadecimal value a line.\nBUDGET is the most steps of a pass; an interrupt that is answered counts as one. EDITS has lines PASS WAYPOINT lat|lon DELTA\nand PASS jitter -1|1. A number is decimal, or hexadecimal with 0x. --plain writes key=value lines.\n",
-    );
+    )
 }
 
 // Reads the rest of the order, and carries it out.
-fn command(bill: bool, mem: &mut [u8], copies: &mut [u8]) {
-    let asked = order::read(bill);
+fn command(rt: &HostRuntime, bill: bool, mem: &mut [u8], copies: &mut [u8]) -> io::Result<()> {
+    let asked = order::read(rt, bill)?;
     let Asked::Order(o) = asked else {
-        return;
+        return Ok(());
     };
     let size = o.size as usize;
     if size <= mem.len() {
         if bill {
-            bill::bill(&mut mem[0..size], copies, o);
+            bill::bill(rt, &mut mem[0..size], copies, o)?;
         } else {
-            run::run(&mut mem[0..size], copies, o);
+            run::run(rt, &mut mem[0..size], copies, o)?;
         }
     }
+    Ok(())
 }
 
 // The command that the first argument names.
-fn obey(mem: &mut [u8], copies: &mut [u8]) {
-    let bill = ask::is(1, b"bill");
-    if bill | ask::is(1, b"run") {
-        command(bill, mem, copies);
-    } else if (os::arg_count() < 2) | ask::is(1, b"help") {
-        help();
+fn obey(rt: &HostRuntime, mem: &mut [u8], copies: &mut [u8]) -> io::Result<()> {
+    let bill = ask::is(rt, 1, b"bill");
+    if bill | ask::is(rt, 1, b"run") {
+        command(rt, bill, mem, copies)
+    } else if (ask::count(rt) < 2) | ask::is(rt, 1, b"help") {
+        help(rt)
     } else {
-        ask::complain(1, b"no such command; there are run, bill and help");
+        ask::complain(
+            rt,
+            1,
+            b"no such command; there are run, bill and help",
+        )
     }
 }
 
-fn main() {
-    let mut mem = [0u8; 4194304];
-    let mut copies = [0u8; 3932160];
-    obey(&mut mem, &mut copies);
+fn main(rt: HostRuntime) -> io::Result<()> {
+    let mut mem = vec![in rt.alloc(); 0u8; LARGEST]?;
+    let mut copies = vec![in rt.alloc(); 0u8; COPIES]?;
+    obey(&rt, &mut mem, &mut copies)
 }

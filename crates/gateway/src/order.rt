@@ -3,9 +3,9 @@ ghost use Rattle.std.specs.Prelude.{◌≤◌};
 
 use crate::ask;
 use given::Number;
-use libc::STDERR_FILENO;
+use std::io;
 
-#[derive(Drop)]
+#[derive(Clone, Copy)]
 pub struct Order {
     pub load: u32,
     pub budget: u32,
@@ -13,7 +13,7 @@ pub struct Order {
     pub plain: bool,
 }
 
-#[derive(Drop)]
+#[derive(Clone, Copy)]
 pub enum Asked {
     Order(Order),
     Refused,
@@ -38,51 +38,57 @@ fn is_size(n: u32) -> bool {
     (4096 <= n) & (n <= LARGEST) & (n % 4096 == 0)
 }
 
-fn refused(i: usize, words: &[u8]) -> Asked {
-    ask::complain(i, words);
-    Asked::Refused
+fn refused(rt: &HostRuntime, i: usize, words: &[u8]) -> io::Result<Asked> {
+    ask::complain(rt, i, words)?;
+    Ok(Asked::Refused)
 }
 
 // The number of an argument, and a sentence where it is none.
-fn number(i: usize, name: &[u8]) -> Number {
-    let n = ask::number(i);
+fn number(rt: &HostRuntime, i: usize, name: &[u8]) -> io::Result<Number> {
+    let n = ask::number(rt, i);
     if let Number::Value(_) = n {
-        return n;
+        return Ok(n);
     }
-    ask::begin(i);
-    text::say(STDERR_FILENO, name);
+    ask::begin(rt, i)?;
+    let mut err = rt.stderr();
+    text::say(&mut err, name)?;
     text::say(
-        STDERR_FILENO,
+        &mut err,
         b" is no number (decimal, or hexadecimal with 0x)\n",
-    );
-    n
+    )?;
+    Ok(n)
 }
 
-fn numbers(plain: bool) -> Asked {
-    let Number::Value(load) = number(LOAD, b"the load address") else {
-        return Asked::Refused;
+fn numbers(rt: &HostRuntime, plain: bool) -> io::Result<Asked> {
+    let Number::Value(load) = number(rt, LOAD, b"the load address")? else {
+        return Ok(Asked::Refused);
     };
-    let Number::Value(budget) = number(BUDGET, b"the budget") else {
-        return Asked::Refused;
+    let Number::Value(budget) = number(rt, BUDGET, b"the budget")? else {
+        return Ok(Asked::Refused);
     };
-    let Number::Value(size) = number(SIZE, b"the size of memory") else {
-        return Asked::Refused;
+    let Number::Value(size) = number(rt, SIZE, b"the size of memory")? else {
+        return Ok(Asked::Refused);
     };
     if !is_size(size) {
         return refused(
+            rt,
             SIZE,
             b"the size of memory is a multiple of 4096, from 4096 to 4194304",
         );
     }
     if size <= load {
-        return refused(LOAD, b"the load address lies past the end of memory");
+        return refused(
+            rt,
+            LOAD,
+            b"the load address lies past the end of memory",
+        );
     }
-    Asked::Order(Order {
+    Ok(Asked::Order(Order {
         load,
         budget,
         size,
         plain,
-    })
+    }))
 }
 
 // How many arguments a command has, the program's name among them.
@@ -93,21 +99,25 @@ fn words(bill: bool) -> usize
 }
 
 // Reads the arguments of `run`, or of `bill`, which has one more.
-pub fn read(bill: bool) -> Asked {
-    let n = os::arg_count();
+pub fn read(rt: &HostRuntime, bill: bool) -> io::Result<Asked> {
+    let n = ask::count(rt);
     let whole = words(bill);
     if n == whole {
-        return numbers(false);
+        return numbers(rt, false);
     }
-    if (n == whole + 1) & ask::is(whole, b"--plain") {
-        return numbers(true);
+    if (n == whole + 1) & ask::is(rt, whole, b"--plain") {
+        return numbers(rt, true);
     }
     if bill {
         ask::complain_at_all(
+            rt,
             b"bill takes IMAGE LOAD RECORD BUDGET SIZE EDITS, and --plain if wanted",
-        );
+        )?;
     } else {
-        ask::complain_at_all(b"run takes IMAGE LOAD RECORD BUDGET SIZE, and --plain if wanted");
+        ask::complain_at_all(
+            rt,
+            b"run takes IMAGE LOAD RECORD BUDGET SIZE, and --plain if wanted",
+        )?;
     }
-    Asked::Refused
+    Ok(Asked::Refused)
 }

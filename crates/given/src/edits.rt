@@ -7,7 +7,7 @@ use crate::words::Word;
 pub const LAST_PASS: u32 = 63;
 
 // Waypoint 0 stands for all of them, latitude and longitude both.
-#[derive(Drop)]
+#[derive(Clone, Copy)]
 pub struct Edit {
     pub pass: u32,
     pub waypoint: u32,
@@ -17,7 +17,7 @@ pub struct Edit {
 }
 
 // What is wrong with a line.
-#[derive(Drop)]
+#[derive(Clone, Copy)]
 pub enum Slip {
     Pass,
     Waypoint,
@@ -27,14 +27,14 @@ pub enum Slip {
     MoreAfter,
 }
 
-#[derive(Drop)]
+#[derive(Clone, Copy)]
 pub enum Line {
     Nothing,
     Edit(Edit),
     Wrong(Slip),
 }
 
-#[derive(Drop)]
+#[derive(Clone, Copy)]
 struct Signed {
     good: bool,
     down: bool,
@@ -161,7 +161,7 @@ pub fn edit_at(s: &[u8], at: usize, waypoints: u32) -> Line {
 }
 
 // A list of edits that is understood, and the last pass that it names; or the first line that is not.
-#[derive(Drop)]
+#[derive(Clone, Copy)]
 pub enum Listed {
     Good(u32),
     Bad(u32, Slip),

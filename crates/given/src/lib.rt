@@ -1,4 +1,6 @@
 // What a person hands over as text: numbers, a record, a list of edits. Nothing is guessed: whatever is not understood is named.
+#![tactic(auto)]
+
 mod edits;
 mod number;
 mod record;

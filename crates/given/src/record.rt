@@ -5,7 +5,7 @@ use crate::words::Word;
 use machine::{Control, Cpu, Registers};
 
 // What is wrong with a line.
-#[derive(Drop)]
+#[derive(Clone, Copy)]
 pub enum Flaw {
     Nothing,
     UnknownName,
@@ -16,14 +16,14 @@ pub enum Flaw {
 }
 
 // The first line that is wrong, and what is wrong with it.
-#[derive(Drop)]
+#[derive(Clone, Copy)]
 pub enum Parsed {
     Good,
     Bad(u32, Flaw),
 }
 
 // The record, and whether it is to be believed.
-#[derive(Drop)]
+#[derive(Clone, Copy)]
 pub struct Record {
     pub parsed: Parsed,
     pub cpu: Cpu,

@@ -1,11 +1,12 @@
 // The frames that a pass changed, each with the right by which it was changed.
 use frames::Kind;
-use libc::STDOUT_FILENO;
 use machine::Control;
+use std::io;
+use std::io::Write;
 use text::say;
 
 // How many frames were changed, by kind.
-#[derive(Drop)]
+#[derive(Clone, Copy)]
 pub struct Tally {
     pub own: u32,
     pub marks: u32,
@@ -13,7 +14,7 @@ pub struct Tally {
 }
 
 // How a pass is told: to a person, to a script, or not at all.
-#[derive(Drop)]
+#[derive(Clone, Copy)]
 pub enum Voice {
     Words,
     Plain,
@@ -24,22 +25,28 @@ fn plus(n: u32) -> u32 {
     std::num::wrapping_add_u32(n, 1)
 }
 
-fn tell(v: Voice, f: u32, key: &[u8], words: &[u8]) {
+fn tell<W: Write>(
+    out: &mut W,
+    v: Voice,
+    f: u32,
+    key: &[u8],
+    words: &[u8],
+) -> io::Result<()> {
     let at = f % 1048576 * 4096;
     match v {
         Voice::Words => {
-            say(STDOUT_FILENO, b"  frame ");
-            text::hex(STDOUT_FILENO, at);
-            say(STDOUT_FILENO, b"  ");
-            say(STDOUT_FILENO, words);
-            text::end(STDOUT_FILENO);
+            say(out, b"  frame ")?;
+            text::hex(out, at)?;
+            say(out, b"  ")?;
+            say(out, words)?;
+            text::end(out)
         }
         Voice::Plain => {
-            say(STDOUT_FILENO, b"frame.");
-            text::hex(STDOUT_FILENO, at);
-            text::word_line(STDOUT_FILENO, b"", key);
+            say(out, b"frame.")?;
+            text::hex(out, at)?;
+            text::word_line(out, b"", key)
         }
-        Voice::Silent => {}
+        Voice::Silent => Ok(()),
     }
 }
 
@@ -69,45 +76,61 @@ fn other(t: Tally) -> Tally {
 }
 
 // Tells one frame, and counts it.
-fn one(v: Voice, f: u32, k: Kind, t: Tally) -> Tally {
+fn one<W: Write>(out: &mut W, v: Voice, f: u32, k: Kind, t: Tally) -> io::Result<Tally> {
     match k {
-        Kind::Same => t,
+        Kind::Same => Ok(t),
         Kind::Own => {
             tell(
+                out,
                 v,
                 f,
                 b"own",
                 b"the user's own: a page that its maps let it write",
-            );
-            own(t)
+            )?;
+            Ok(own(t))
         }
         Kind::Marks => {
             tell(
+                out,
                 v,
                 f,
                 b"marks",
                 b"accessed and dirty marks alone, in the directory or a table",
-            );
-            marks(t)
+            )?;
+            Ok(marks(t))
         }
         Kind::Kernel => {
-            tell(v, f, b"kernel", b"the kernel's: written in ring 0");
-            other(t)
+            tell(
+                out,
+                v,
+                f,
+                b"kernel",
+                b"the kernel's: written in ring 0",
+            )?;
+            Ok(other(t))
         }
         Kind::Neither => {
             tell(
+                out,
                 v,
                 f,
                 b"neither",
                 b"neither: no page that the user may write leads here",
-            );
-            other(t)
+            )?;
+            Ok(other(t))
         }
     }
 }
 
 // Every frame that differs from its copy.
-pub fn frames(v: Voice, mem: &[u8], c: Control, copies: &[u8], slots: &[u32]) -> Tally {
+pub fn frames<W: Write>(
+    out: &mut W,
+    v: Voice,
+    mem: &[u8],
+    c: Control,
+    copies: &[u8],
+    slots: &[u32],
+) -> io::Result<Tally> {
     let mut t = Tally {
         own: 0,
         marks: 0,
@@ -115,8 +138,8 @@ pub fn frames(v: Voice, mem: &[u8], c: Control, copies: &[u8], slots: &[u32]) ->
     };
     let mut f: u32 = 0;
     while f < 1024 {
-        t = one(v, f, frames::kind_of(mem, c, copies, slots, f), t);
+        t = one(out, v, f, frames::kind_of(mem, c, copies, slots, f), t)?;
         f += 1;
     }
-    t
+    Ok(t)
 }

@@ -1,4 +1,7 @@
 // The log's sentences: replies, records and frames, in words for a person and as `key=value` lines for a script.
+// A call that answers Ok has written all of its text; where the writer failed, it may have written the start of it.
+#![tactic(auto)]
+
 mod explain;
 mod frame;
 mod record;

@@ -1,20 +1,20 @@
 // A reply by its number and its name, and the numbers that it carries.
-use libc::STDOUT_FILENO;
 use machine::Reply;
+use std::io;
+use std::io::Write;
 use text::{decimal, say};
 
 // Name and number, and what tells one fault or trap from another.
-pub fn short(q: Reply) {
-    let out = STDOUT_FILENO;
+pub fn short<W: Write>(out: &mut W, q: Reply) -> io::Result<()> {
     match q {
         Reply::Done => say(out, b"0 Done"),
         Reply::Fault(vector, _, _) => {
-            say(out, b"1 Fault ");
-            decimal(out, vector);
+            say(out, b"1 Fault ")?;
+            decimal(out, vector)
         }
         Reply::Trap(vector, _) => {
-            say(out, b"2 Trap ");
-            decimal(out, vector);
+            say(out, b"2 Trap ")?;
+            decimal(out, vector)
         }
         Reply::Halt(_) => say(out, b"3 Halt"),
         Reply::BadRecord => say(out, b"4 Bad record"),
@@ -43,36 +43,36 @@ pub fn number(q: Reply) -> u32 {
     }
 }
 
-fn address(key: &[u8], name: &[u8], x: u32) {
-    say(STDOUT_FILENO, key);
-    say(STDOUT_FILENO, b".");
-    text::address_line(STDOUT_FILENO, name, x);
+fn address<W: Write>(out: &mut W, key: &[u8], name: &[u8], x: u32) -> io::Result<()> {
+    say(out, key)?;
+    say(out, b".")?;
+    text::address_line(out, name, x)
 }
 
-fn count(key: &[u8], name: &[u8], x: u32) {
-    say(STDOUT_FILENO, key);
-    say(STDOUT_FILENO, b".");
-    text::count_line(STDOUT_FILENO, name, x);
+fn count<W: Write>(out: &mut W, key: &[u8], name: &[u8], x: u32) -> io::Result<()> {
+    say(out, key)?;
+    say(out, b".")?;
+    text::count_line(out, name, x)
 }
 
 // `key=number`, and a line `key.name=value` for each value that the reply carries.
-pub fn reply_lines(key: &[u8], q: Reply) {
-    text::count_line(STDOUT_FILENO, key, number(q));
+pub fn reply_lines<W: Write>(out: &mut W, key: &[u8], q: Reply) -> io::Result<()> {
+    text::count_line(out, key, number(q))?;
     match q {
         Reply::Fault(vector, code, at) => {
-            count(key, b"vector", vector);
-            count(key, b"code", code);
-            address(key, b"address", at);
+            count(out, key, b"vector", vector)?;
+            count(out, key, b"code", code)?;
+            address(out, key, b"address", at)
         }
         Reply::Trap(vector, next) => {
-            count(key, b"vector", vector);
-            address(key, b"next", next);
+            count(out, key, b"vector", vector)?;
+            address(out, key, b"next", next)
         }
-        Reply::Halt(next) => address(key, b"next", next),
-        Reply::NoMemory(at) => address(key, b"physical", at),
-        Reply::NotBuilt(eip) => address(key, b"eip", eip),
-        Reply::TableOutside(index) => count(key, b"index", index),
-        Reply::Exposed(page) => address(key, b"page", page),
-        Reply::Done | Reply::BadRecord | Reply::Spent | Reply::Safe => {}
+        Reply::Halt(next) => address(out, key, b"next", next),
+        Reply::NoMemory(at) => address(out, key, b"physical", at),
+        Reply::NotBuilt(eip) => address(out, key, b"eip", eip),
+        Reply::TableOutside(index) => count(out, key, b"index", index),
+        Reply::Exposed(page) => address(out, key, b"page", page),
+        Reply::Done | Reply::BadRecord | Reply::Spent | Reply::Safe => Ok(()),
     }
 }

@@ -1,9 +1,12 @@
 // A pass: the guest runs until it ends the pass or cannot go on, and each waypoint that it asks to send is taken.
-ghost use Rattle.std.specs.Prelude.{◌<◌};
+#![tactic(auto)]
+
+ghost use Rattle.std.specs.Prelude.{◌<◌, IfOk};
 
 use journal::Voice;
-use libc::STDOUT_FILENO;
 use machine::{Cpu, Reply};
+use std::io;
+use std::io::Write;
 
 // The interrupts: a waypoint to send, and the end of a pass.
 const SEND: u32 = 48;
@@ -11,14 +14,14 @@ const SEND: u32 = 48;
 const END: u32 = 49;
 
 // What a pass has done so far.
-#[derive(Drop)]
+#[derive(Clone, Copy)]
 pub struct Done {
     pub steps: u32,
     pub sent: u32,
     pub bytes: u32,
 }
 
-#[derive(Drop)]
+#[derive(Clone, Copy)]
 pub struct Passed {
     pub cpu: Cpu,
     pub reply: Reply,
@@ -75,35 +78,35 @@ fn stepped(d: Done, n: u32) -> Done {
     }
 }
 
-fn tell(v: Voice, waypoint: u32, bytes: u32) {
+fn tell<W: Write>(out: &mut W, v: Voice, waypoint: u32, bytes: u32) -> io::Result<()> {
     match v {
         Voice::Words => {
-            text::say(STDOUT_FILENO, b"  waypoint ");
-            text::decimal(STDOUT_FILENO, waypoint);
-            text::say(STDOUT_FILENO, b": ");
-            text::decimal(STDOUT_FILENO, bytes);
-            text::say(STDOUT_FILENO, b" bytes\n");
+            text::say(out, b"  waypoint ")?;
+            text::decimal(out, waypoint)?;
+            text::say(out, b": ")?;
+            text::decimal(out, bytes)?;
+            text::say(out, b" bytes\n")
         }
         Voice::Plain => {
-            text::count_line(STDOUT_FILENO, b"waypoint", waypoint);
-            text::count_line(STDOUT_FILENO, b"waypoint.bytes", bytes);
+            text::count_line(out, b"waypoint", waypoint)?;
+            text::count_line(out, b"waypoint.bytes", bytes)
         }
-        Voice::Silent => {}
+        Voice::Silent => Ok(()),
     }
 }
 
-fn tell_refused(v: Voice, waypoint: u32) {
+fn tell_refused<W: Write>(out: &mut W, v: Voice, waypoint: u32) -> io::Result<()> {
     match v {
         Voice::Words => {
-            text::say(STDOUT_FILENO, b"  waypoint ");
-            text::decimal(STDOUT_FILENO, waypoint);
+            text::say(out, b"  waypoint ")?;
+            text::decimal(out, waypoint)?;
             text::say(
-                STDOUT_FILENO,
+                out,
                 b": not taken; the plan has no such waypoint, or its 16 bytes cannot be read\n",
-            );
+            )
         }
-        Voice::Plain => text::count_line(STDOUT_FILENO, b"waypoint.refused", waypoint),
-        Voice::Silent => {}
+        Voice::Plain => text::count_line(out, b"waypoint.refused", waypoint),
+        Voice::Silent => Ok(()),
     }
 }
 
@@ -120,24 +123,32 @@ fn is_taken(mem: &[u8], ground: &mut [u8], waypoints: u32, c: Cpu, w: u32, bytes
 }
 
 // Answers the interrupt: the waypoint is EAX, of ECX bytes.
-fn answer(mem: &[u8], ground: &mut [u8], waypoints: u32, c: Cpu, v: Voice, d: Done) -> Done {
+fn answer<W: Write>(
+    out: &mut W,
+    mem: &[u8],
+    ground: &mut [u8],
+    waypoints: u32,
+    c: Cpu,
+    v: Voice,
+    d: Done,
+) -> io::Result<Done> {
     let r = c.regs;
     let w = r.read(0);
     let bytes = r.read(1);
     if !is_taken(mem, ground, waypoints, c, w, bytes) {
-        tell_refused(v, w);
-        return d;
+        tell_refused(out, v, w)?;
+        return Ok(d);
     }
-    tell(v, w, bytes);
-    Done {
+    tell(out, v, w, bytes)?;
+    Ok(Done {
         steps: d.steps,
         sent: plus(d.sent, 1),
         bytes: plus(d.bytes, bytes),
-    }
+    })
 }
 
 // Where a pass stands after one run: the guest goes on, or the reply ended the pass.
-#[derive(Drop)]
+#[derive(Clone, Copy)]
 struct Turn {
     goes_on: bool,
     cpu: Cpu,
@@ -147,7 +158,8 @@ struct Turn {
 }
 
 // Runs the guest to its next reply, and answers that if it asks to send.
-fn take_turn(
+fn take_turn<W: Write>(
+    out: &mut W,
     mem: &mut [u8],
     ground: &mut [u8],
     waypoints: u32,
@@ -155,9 +167,9 @@ fn take_turn(
     left: u32,
     v: Voice,
     d: Done,
-) -> Turn
+) -> io::Result<Turn>
     requires { 0 < left }
-    ensures { result.left < left }
+    ensures { IfOk result (λ t. t.left < left) }
 {
     let r = micro32::run(c, mem, left);
     let reply = r.reply;
@@ -165,34 +177,35 @@ fn take_turn(
     let rest = less(left, r.count);
     let done = stepped(d, r.count);
     if !asks(reply, SEND) {
-        return Turn {
+        return Ok(Turn {
             goes_on: false,
             cpu: e,
             reply,
             done,
             left: rest,
-        };
+        });
     }
-    let done = answer(mem, ground, waypoints, e, v, done);
+    let done = answer(out, mem, ground, waypoints, e, v, done)?;
     let cpu = after(e, reply);
-    Turn {
+    Ok(Turn {
         goes_on: true,
         cpu,
         reply,
         done,
         left: rest,
-    }
+    })
 }
 
-// Plays one pass on the budget. An interrupt that is answered takes one from it.
-pub fn play(
+// Plays one pass on the budget. An interrupt that is answered takes one from it. Where the writer fails the pass ends there.
+pub fn play<W: Write>(
+    out: &mut W,
     mem: &mut [u8],
     ground: &mut [u8],
     waypoints: u32,
     c: Cpu,
     budget: u32,
     v: Voice,
-) -> Passed {
+) -> io::Result<Passed> {
     let mut left = budget;
     let mut cpu = c;
     let mut done = Done {
@@ -201,24 +214,24 @@ pub fn play(
         bytes: 0,
     };
     while 0 < left {
-        let t = take_turn(mem, ground, waypoints, cpu, left, v, done);
+        let t = take_turn(out, mem, ground, waypoints, cpu, left, v, done)?;
         let now = t.cpu;
         let sum = t.done;
         if !t.goes_on {
             let reply = t.reply;
-            return Passed {
+            return Ok(Passed {
                 cpu: now,
                 reply,
                 done: sum,
-            };
+            });
         }
         cpu = now;
         done = sum;
         left = t.left;
     }
-    Passed {
+    Ok(Passed {
         cpu,
         reply: Reply::Spent,
         done,
-    }
+    })
 }

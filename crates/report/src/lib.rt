@@ -1,58 +1,87 @@
 // The log of a pass: what the audit said, what the guest did, how it ended, the record, and the frames that changed.
-use journal::{Tally, Voice};
-use libc::STDOUT_FILENO;
-use machine::{Cpu, Reply};
+// A call that answers Ok has written all of its text; where the writer failed, it may have written the start of it.
+#![tactic(auto)]
 
-fn label(words: &[u8]) {
-    text::say(STDOUT_FILENO, words);
+use journal::{Tally, Voice};
+use machine::{Cpu, Reply};
+use std::io;
+use std::io::Write;
+
+fn label<W: Write>(out: &mut W, words: &[u8]) -> io::Result<()> {
+    text::say(out, words)
 }
 
 // A reply under its label, or under its key.
-fn answer(mem: &[u8], c: Cpu, q: Reply, plain: bool, key: &[u8], words: &[u8]) {
+fn answer<W: Write>(
+    out: &mut W,
+    mem: &[u8],
+    c: Cpu,
+    q: Reply,
+    plain: bool,
+    key: &[u8],
+    words: &[u8],
+) -> io::Result<()> {
     if plain {
-        journal::reply_lines(key, q);
-        return;
+        return journal::reply_lines(out, key, q);
     }
-    label(words);
-    journal::explained(mem, c.control, q);
-    text::end(STDOUT_FILENO);
+    label(out, words)?;
+    journal::explained(out, mem, c.control, q)?;
+    text::end(out)
 }
 
 // What ended a pass.
-pub fn reply(mem: &[u8], c: Cpu, q: Reply, plain: bool) {
-    answer(mem, c, q, plain, b"reply", b"  reply         ");
+pub fn reply<W: Write>(
+    out: &mut W,
+    mem: &[u8],
+    c: Cpu,
+    q: Reply,
+    plain: bool,
+) -> io::Result<()> {
+    answer(
+        out,
+        mem,
+        c,
+        q,
+        plain,
+        b"reply",
+        b"  reply         ",
+    )
 }
 
-fn work(sent: u32, bytes: u32, steps: u32, plain: bool) {
+fn work<W: Write>(
+    out: &mut W,
+    sent: u32,
+    bytes: u32,
+    steps: u32,
+    plain: bool,
+) -> io::Result<()> {
     if plain {
-        text::count_line(STDOUT_FILENO, b"sent", sent);
-        text::count_line(STDOUT_FILENO, b"bytes", bytes);
-        text::count_line(STDOUT_FILENO, b"steps", steps);
-        return;
+        text::count_line(out, b"sent", sent)?;
+        text::count_line(out, b"bytes", bytes)?;
+        return text::count_line(out, b"steps", steps);
     }
-    label(b"  sent          ");
-    text::counted(STDOUT_FILENO, sent, b" waypoint");
-    label(b", ");
-    text::counted(STDOUT_FILENO, bytes, b" byte");
-    label(b"\n  steps Done    ");
-    text::decimal(STDOUT_FILENO, steps);
-    text::end(STDOUT_FILENO);
+    label(out, b"  sent          ")?;
+    text::counted(out, sent, b" waypoint")?;
+    label(out, b", ")?;
+    text::counted(out, bytes, b" byte")?;
+    label(out, b"\n  steps Done    ")?;
+    text::decimal(out, steps)?;
+    text::end(out)
 }
 
-fn tally(t: Tally, plain: bool) {
+fn tally<W: Write>(out: &mut W, t: Tally, plain: bool) -> io::Result<()> {
     if plain {
-        text::count_line(STDOUT_FILENO, b"frames.own", t.own);
-        text::count_line(STDOUT_FILENO, b"frames.marks", t.marks);
-        text::count_line(STDOUT_FILENO, b"frames.other", t.other);
-        return;
+        text::count_line(out, b"frames.own", t.own)?;
+        text::count_line(out, b"frames.marks", t.marks)?;
+        return text::count_line(out, b"frames.other", t.other);
     }
-    label(b"  frames        ");
-    text::decimal(STDOUT_FILENO, t.own);
-    label(b" the user's own, ");
-    text::decimal(STDOUT_FILENO, t.marks);
-    label(b" marks alone, ");
-    text::decimal(STDOUT_FILENO, t.other);
-    label(b" other\n");
+    label(out, b"  frames        ")?;
+    text::decimal(out, t.own)?;
+    label(out, b" the user's own, ")?;
+    text::decimal(out, t.marks)?;
+    label(out, b" marks alone, ")?;
+    text::decimal(out, t.other)?;
+    label(out, b" other\n")
 }
 
 pub fn voice(plain: bool) -> Voice {
@@ -60,23 +89,36 @@ pub fn voice(plain: bool) -> Voice {
 }
 
 // Are the kernel's records as they were before the pass?
-pub fn records(mem: &[u8], copies: &[u8], slots: &[u32], plain: bool) {
+pub fn records<W: Write>(
+    out: &mut W,
+    mem: &[u8],
+    copies: &[u8],
+    slots: &[u32],
+    plain: bool,
+) -> io::Result<()> {
     let same = frames::is_same(mem, copies, slots, waypoints::RECORDS / 4096);
     if plain {
         text::count_line(
-            STDOUT_FILENO,
+            out,
             b"records.untouched",
             if same { 1 } else { 0 },
-        );
+        )
     } else if same {
-        label(b"  records       the kernel's records at 00004000 are untouched\n");
+        label(
+            out,
+            b"  records       the kernel's records at 00004000 are untouched\n",
+        )
     } else {
-        label(b"  records       the kernel's records at 00004000 were CHANGED\n");
+        label(
+            out,
+            b"  records       the kernel's records at 00004000 were CHANGED\n",
+        )
     }
 }
 
 // All that is told after a pass, but for the records: what it ended with, and what it sent.
-pub fn after(
+pub fn after<W: Write>(
+    out: &mut W,
     mem: &[u8],
     copies: &[u8],
     slots: &[u32],
@@ -86,50 +128,65 @@ pub fn after(
     bytes: u32,
     steps: u32,
     plain: bool,
-) {
-    work(sent, bytes, steps, plain);
-    reply(mem, c, q, plain);
+) -> io::Result<()> {
+    work(out, sent, bytes, steps, plain)?;
+    reply(out, mem, c, q, plain)?;
     answer(
+        out,
         mem,
         c,
         micro32::audit(c, mem),
         plain,
         b"audit_after",
         b"  audit after   ",
-    );
+    )?;
     if plain {
-        journal::cpu_lines(c);
+        journal::cpu_lines(out, c)?;
     } else {
-        journal::cpu_table(c);
+        journal::cpu_table(out, c)?;
     }
-    let t = journal::frames(voice(plain), mem, c.control, copies, slots);
-    tally(t, plain);
+    let t = journal::frames(out, voice(plain), mem, c.control, copies, slots)?;
+    tally(out, t, plain)
 }
 
 // What the audit says before a pass.
-pub fn before(mem: &[u8], c: Cpu, plain: bool) {
+pub fn before<W: Write>(out: &mut W, mem: &[u8], c: Cpu, plain: bool) -> io::Result<()> {
     let q = micro32::audit(c, mem);
-    answer(mem, c, q, plain, b"audit_before", b"  audit before  ");
+    answer(
+        out,
+        mem,
+        c,
+        q,
+        plain,
+        b"audit_before",
+        b"  audit before  ",
+    )
 }
 
-fn placed(bytes: u32, load: u32, size: u32) {
-    text::decimal(STDOUT_FILENO, bytes);
-    label(b" bytes at ");
-    text::hex(STDOUT_FILENO, load);
-    label(b" in a memory of ");
-    text::decimal(STDOUT_FILENO, size);
-    label(b" bytes");
+fn placed<W: Write>(out: &mut W, bytes: u32, load: u32, size: u32) -> io::Result<()> {
+    text::decimal(out, bytes)?;
+    label(out, b" bytes at ")?;
+    text::hex(out, load)?;
+    label(out, b" in a memory of ")?;
+    text::decimal(out, size)?;
+    label(out, b" bytes")
 }
 
 // The first line: what was put where, and the budget.
-pub fn heading(bytes: u32, load: u32, size: u32, budget: u32, plain: bool) {
+pub fn heading<W: Write>(
+    out: &mut W,
+    bytes: u32,
+    load: u32,
+    size: u32,
+    budget: u32,
+    plain: bool,
+) -> io::Result<()> {
     if plain {
-        text::count_line(STDOUT_FILENO, b"pass", 1);
-        return;
+        return text::count_line(out, b"pass", 1);
     }
-    label(b"pass 1: ");
-    placed(bytes, load, size);
-    label(b", at most ");
-    text::decimal(STDOUT_FILENO, budget);
-    label(b" steps\n");
+    label(out, b"pass 1: ")?;
+    placed(out, bytes, load, size)?;
+    label(out, b", at most ")?;
+    text::decimal(out, budget)?;
+    label(out, b" steps\n")
 }

@@ -1,31 +1,37 @@
-// Words and numbers written to a descriptor, in columns that stay where they are.
+// Words and numbers written to a writer, in columns that stay where they are. A call that answers Ok has written all of its text.
+#![tactic(auto)]
+
 ghost use Rattle.std.specs.Prelude.{◌≤◌};
 
-pub fn say(out: i32, words: &[u8]) {
-    io::write_all(out, words);
+use std::alloc::Global;
+use std::io;
+use std::io::Write;
+
+pub fn say<W: Write>(out: &mut W, words: &[u8]) -> io::Result<()> {
+    out.write_all(words)
 }
 
-pub fn end(out: i32) {
-    say(out, b"\n");
+pub fn end<W: Write>(out: &mut W) -> io::Result<()> {
+    say(out, b"\n")
 }
 
-pub fn decimal(out: i32, n: u32) {
-    io::print_decimal(out, n as u64);
+pub fn decimal<W: Write>(out: &mut W, n: u32) -> io::Result<()> {
+    write!(out, "{n}")
 }
 
 // The first n bytes of words, or all of them.
-pub fn part(out: i32, words: &[u8], n: usize) {
+pub fn part<W: Write>(out: &mut W, words: &[u8], n: usize) -> io::Result<()> {
     if n <= words.len() {
-        io::write_all(out, &words[0..n]);
+        say(out, &words[0..n])
     } else {
-        io::write_all(out, words);
+        say(out, words)
     }
 }
 
 // The sign b, n times, and at most 64 times.
-pub fn fill(out: i32, b: u8, n: u32) {
+pub fn fill<W: Write>(out: &mut W, b: u8, n: u32) -> io::Result<()> {
     let row = [b; 64];
-    part(out, &row, n as usize);
+    part(out, &row, n as usize)
 }
 
 // How many decimal digits n takes.
@@ -56,21 +62,22 @@ fn digits(n: u32) -> u32
 }
 
 // n at the right edge of a column of this width.
-pub fn column(out: i32, n: u32, width: u32) {
+pub fn column<W: Write>(out: &mut W, n: u32, width: u32) -> io::Result<()> {
     let k = digits(n);
     if k < width {
-        fill(out, b' ', width - k);
+        fill(out, b' ', width - k)?;
     }
-    decimal(out, n);
+    decimal(out, n)
 }
 
 // n of something, whose name takes an s unless there is one of it.
-pub fn counted(out: i32, n: u32, name: &[u8]) {
-    decimal(out, n);
-    say(out, name);
+pub fn counted<W: Write>(out: &mut W, n: u32, name: &[u8]) -> io::Result<()> {
+    decimal(out, n)?;
+    say(out, name)?;
     if n != 1 {
-        say(out, b"s");
+        say(out, b"s")?;
     }
+    Ok(())
 }
 
 // One hexadecimal digit: the last one of n.
@@ -83,7 +90,7 @@ fn digit(n: u32) -> u8 {
 }
 
 // Eight hexadecimal digits.
-pub fn hex(out: i32, x: u32) {
+pub fn hex<W: Write>(out: &mut W, x: u32) -> io::Result<()> {
     let row = [
         digit(x / 268435456),
         digit(x / 16777216),
@@ -94,29 +101,42 @@ pub fn hex(out: i32, x: u32) {
         digit(x / 16),
         digit(x),
     ];
-    io::write_all(out, &row);
+    say(out, &row)
 }
 
 // A line `key=value`, in decimal.
-pub fn count_line(out: i32, key: &[u8], n: u32) {
-    say(out, key);
-    say(out, b"=");
-    decimal(out, n);
-    end(out);
+pub fn count_line<W: Write>(out: &mut W, key: &[u8], n: u32) -> io::Result<()> {
+    say(out, key)?;
+    say(out, b"=")?;
+    decimal(out, n)?;
+    end(out)
 }
 
 // A line `key=value`, in eight hexadecimal digits.
-pub fn address_line(out: i32, key: &[u8], x: u32) {
-    say(out, key);
-    say(out, b"=");
-    hex(out, x);
-    end(out);
+pub fn address_line<W: Write>(out: &mut W, key: &[u8], x: u32) -> io::Result<()> {
+    say(out, key)?;
+    say(out, b"=")?;
+    hex(out, x)?;
+    end(out)
 }
 
 // A line `key=value`, in words.
-pub fn word_line(out: i32, key: &[u8], word: &[u8]) {
-    say(out, key);
-    say(out, b"=");
-    say(out, word);
-    end(out);
+pub fn word_line<W: Write>(out: &mut W, key: &[u8], word: &[u8]) -> io::Result<()> {
+    say(out, key)?;
+    say(out, b"=")?;
+    say(out, word)?;
+    end(out)
+}
+
+// What the system says of an error, without the error's number.
+pub fn reason<W: Write>(out: &mut W, alloc: Global, e: io::Error) -> io::Result<()> {
+    let words = e.to_string(alloc)?;
+    let Some(code) = e.raw_os_error() else {
+        return say(out, words.as_bytes());
+    };
+    let number = format!(in alloc; " (os error {code})")?;
+    match words.as_str().strip_suffix(number.as_str()) {
+        Some(only) => say(out, only.as_bytes()),
+        None => say(out, words.as_bytes()),
+    }
 }

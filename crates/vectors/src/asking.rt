@@ -14,7 +14,7 @@ pub const AUDIT: u32 = 2;
 pub const LONE: u32 = 3;
 
 // The count is what a run is to answer; size is the length of the memory that is lent.
-#[derive(Drop)]
+#[derive(Clone, Copy)]
 pub struct Ask {
     pub call: u32,
     pub budget: u32,

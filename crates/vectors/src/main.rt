@@ -1,5 +1,8 @@
 // Runs each case of data/cases and data/directed through the public calls, compares reply, record and memory, and writes a table by family
 // with a line for each directed case. docs/VECTORS.md says where the results come from.
+// A read or a write that fails ends it with status 1.
+#![tactic(auto)]
+
 mod asking;
 mod memory;
 mod reading;
@@ -9,65 +12,75 @@ mod results;
 use asking::Ask;
 use memory::Memory;
 use report::Tally;
+use std::fs::File;
+use std::io;
+use std::io::{BufReader, ErrorKind, Read, Write};
 
-// Reads n bytes to b's start.
-fn fill(fd: i32, b: &mut [u8], n: usize) -> bool {
-    if n <= b.len() {
-        let got = io::read_full(fd, &mut b[..n]);
-        return got == n;
+// Reads n bytes to b's start. False where there is no room for them, or the input ends before.
+fn fill<R: Read>(from: &mut R, b: &mut [u8], n: usize) -> io::Result<bool> {
+    if b.len() < n {
+        return Ok(false);
     }
-    false
+    match from.read_exact(&mut b[..n]) {
+        Ok(()) => Ok(true),
+        Err(e) => {
+            if e.kind() == ErrorKind::UnexpectedEof {
+                return Ok(false);
+            }
+            Err(e)
+        }
+    }
 }
 
 // The longest part of a file.
 const PART: usize = 256;
 
 // A part of a file: its length, or 0 at the end, and its bytes.
-#[derive(Drop)]
+#[derive(Clone, Copy)]
 struct Part {
     n: usize,
     bytes: [u8; PART],
 }
 
 // Reads a part: a byte that says how long it is, and then the part.
-fn next(fd: i32) -> Part {
+fn next<R: Read>(from: &mut R) -> io::Result<Part> {
     let mut head = [0u8; 1];
     let mut bytes = [0u8; PART];
-    if !fill(fd, &mut head, 1) {
-        return Part { n: 0, bytes };
+    if !fill(from, &mut head, 1)? {
+        return Ok(Part { n: 0, bytes });
     }
     let n = reading::wide(head[0]) as usize;
-    if !fill(fd, &mut bytes, n) {
-        return Part { n: 0, bytes };
+    if !fill(from, &mut bytes, n)? {
+        return Ok(Part { n: 0, bytes });
     }
-    Part { n, bytes }
+    Ok(Part { n, bytes })
 }
 
 // A case, and before a directed one what it asks, with its rule. The length is that of what was read first, or 0 at the end.
-#[derive(Drop)]
+#[derive(Clone, Copy)]
 struct Case {
     n: usize,
     asks: [u8; PART],
     bytes: [u8; PART],
 }
 
-fn read_case(fd: i32, directed: bool) -> Case {
-    let first = next(fd);
+fn read_case<R: Read>(from: &mut R, directed: bool) -> io::Result<Case> {
+    let first = next(from)?;
     let asks = first.bytes;
     if !directed {
-        return Case {
+        return Ok(Case {
             n: first.n,
             asks,
             bytes: asks,
-        };
+        });
     }
-    let second = next(fd);
+    let second = next(from)?;
     let bytes = second.bytes;
-    Case {
+    Ok(Case {
         n: if second.n == 0 { 0 } else { first.n },
         asks,
         bytes,
-    }
+    })
 }
 
 // One case: laid in memory, called, and all that it left compared; both memories are clear again afterwards.
@@ -108,44 +121,88 @@ fn judged(directed: bool, turns: u32, k: Case, mem: &mut Memory, want: &mut Memo
 }
 
 // The count with one case more.
-fn told(t: Tally, directed: bool, k: Case, same: bool) -> Tally {
+fn told<W: Write>(out: &mut W, t: Tally, directed: bool, k: Case, same: bool) -> io::Result<Tally> {
     let asks = k.asks;
     let b = k.bytes;
-    report::told(t, reading::number(&b, 0), directed, &asks, k.n, same)
+    report::told(
+        out,
+        t,
+        reading::number(&b, 0),
+        directed,
+        &asks,
+        k.n,
+        same,
+    )
 }
 
 // Counts the cases of a file, on from what was counted before.
-fn table(fd: i32, directed: bool, before: Tally, mem: &mut Memory, want: &mut Memory) -> Tally {
+fn table<W: Write, R: Read>(
+    out: &mut W,
+    from: &mut R,
+    directed: bool,
+    before: Tally,
+    mem: &mut Memory,
+    want: &mut Memory,
+) -> io::Result<Tally> {
     let mut t = before;
     let mut turns: u32 = 0;
     while turns < 65536 {
-        let k = read_case(fd, directed);
+        let k = read_case(from, directed)?;
         if k.n == 0 {
-            return t;
+            return Ok(t);
         }
         let same = judged(directed, turns, k, mem, want);
-        t = told(t, directed, k, same);
+        t = told(out, t, directed, k, same)?;
         turns += 1;
     }
-    t
+    Ok(t)
 }
 
-// Opens a file of cases and counts them.
-fn file(path: &[u8], directed: bool, before: Tally, mem: &mut Memory, want: &mut Memory) -> Tally {
-    let fd = os::open_read(path);
-    if fd < 0 {
-        os::fail(path);
-        return before;
+// Opens a file of cases and counts them. Where it cannot be opened, that is said, and nothing is counted.
+fn file(
+    rt: &HostRuntime,
+    path: &str,
+    directed: bool,
+    before: Tally,
+    mem: &mut Memory,
+    want: &mut Memory,
+) -> io::Result<Tally> {
+    match File::open(rt, path) {
+        Ok(cases) => {
+            let mut from = BufReader::new(rt.alloc(), cases)?;
+            let mut out = rt.stdout();
+            table(&mut out, &mut from, directed, before, mem, want)
+        }
+        Err(e) => {
+            let mut err = rt.stderr();
+            text::say(&mut err, path.as_bytes())?;
+            text::say(&mut err, b": ")?;
+            text::reason(&mut err, rt.alloc(), e)?;
+            text::end(&mut err)?;
+            Ok(before)
+        }
     }
-    let t = table(fd, directed, before, mem, want);
-    libc::close(fd);
-    t
 }
 
 // One memory for both files: the first directed case shows what the last generated ones left.
-fn main() {
+fn main(rt: HostRuntime) -> io::Result<()> {
     let mut mem = [0u8; 32768];
     let mut want = [0u8; 32768];
-    let t = file(b"cases", false, report::nothing(), &mut mem, &mut want);
-    report::ended(file(b"directed", true, t, &mut mem, &mut want));
+    let generated = file(
+        &rt,
+        "cases",
+        false,
+        report::nothing(),
+        &mut mem,
+        &mut want,
+    )?;
+    let all = file(
+        &rt,
+        "directed",
+        true,
+        generated,
+        &mut mem,
+        &mut want,
+    )?;
+    report::ended(&mut rt.stdout(), all)
 }

@@ -1,8 +1,9 @@
 // What the program writes: a line for each directed case, and a row for each family.
 use crate::reading::plus;
-use libc::STDOUT_FILENO;
+use std::io;
+use std::io::Write;
 
-#[derive(Drop)]
+#[derive(Clone, Copy)]
 struct Row {
     family: u32,
     cases: u32,
@@ -11,7 +12,7 @@ struct Row {
 }
 
 // The row that is being counted, and the total.
-#[derive(Drop)]
+#[derive(Clone, Copy)]
 pub struct Tally {
     row: Row,
     all: Row,
@@ -32,61 +33,71 @@ pub fn nothing() -> Tally {
     Tally { row, all }
 }
 
-fn text(s: &[u8]) {
-    io::write_all(STDOUT_FILENO, s);
+fn text<W: Write>(out: &mut W, s: &[u8]) -> io::Result<()> {
+    out.write_all(s)
 }
 
-fn digits(n: u32) {
-    io::print_decimal(STDOUT_FILENO, n as u64);
+fn digits<W: Write>(out: &mut W, n: u32) -> io::Result<()> {
+    write!(out, "{n}")
 }
 
 // The part of s that the family names: eight bytes each.
-fn part(s: &[u8], family: u32) {
+fn part<W: Write>(out: &mut W, s: &[u8], family: u32) -> io::Result<()> {
     if family < 48 {
         let at = (family as usize) * 8;
         let end = at + 8;
         if end <= s.len() {
-            text(&s[at..end]);
+            text(out, &s[at..end])?;
         }
     }
+    Ok(())
 }
 
 // The name of a family.
-fn name(family: u32) {
+fn name<W: Write>(out: &mut W, family: u32) -> io::Result<()> {
     let s =
         b"ADD     OR      ADC     SBB     AND     SUB     XOR     CMP     TEST    NOT     NEG     MUL     IMUL    DIV     IDIV    INC     DEC     CONVERT MOV     MOVZX   MOVSX   LEA     XCHG    PUSH    POP     SHL     SHR     SAR     Jcc     SETcc   JMP     CALL    RET     LOOP    FLAGS   LAHF    INT     HLT     FAULT6  UNBUILT MARKS   ORDER   WRAP    LENGTH  RECORD  MAPS    RUN     AUDIT   ";
-    part(s, family);
+    part(out, s, family)
 }
 
 // A directed case's line. Its rule stands at bytes 22 to n of what it asks.
-fn line(family: u32, x: &[u8], n: usize, same: bool) {
-    name(family);
+fn line<W: Write>(
+    out: &mut W,
+    family: u32,
+    x: &[u8],
+    n: usize,
+    same: bool,
+) -> io::Result<()> {
+    name(out, family)?;
     if same {
-        text(b" agrees: ");
+        text(out, b" agrees: ")?;
     } else {
-        text(b" DIFFERS: ");
+        text(out, b" DIFFERS: ")?;
     }
     if 22 <= n {
         if n <= x.len() {
-            text(&x[22..n]);
+            text(out, &x[22..n])?;
         }
     }
-    text(b"\n");
+    text(out, b"\n")
 }
 
-fn print(r: Row) {
-    name(r.family);
-    text(b" cases ");
-    digits(r.cases);
-    text(b", agreed ");
-    digits(std::num::wrapping_sub_u32(r.cases, r.differing));
-    text(b", differing ");
-    digits(r.differing);
+fn print<W: Write>(out: &mut W, r: Row) -> io::Result<()> {
+    name(out, r.family)?;
+    text(out, b" cases ")?;
+    digits(out, r.cases)?;
+    text(out, b", agreed ")?;
+    digits(
+        out,
+        std::num::wrapping_sub_u32(r.cases, r.differing),
+    )?;
+    text(out, b", differing ")?;
+    digits(out, r.differing)?;
     if r.differing != 0 {
-        text(b", first at case ");
-        digits(r.first);
+        text(out, b", first at case ")?;
+        digits(out, r.first)?;
     }
-    text(b"\n");
+    text(out, b"\n")
 }
 
 fn counted(r: Row, same: bool) -> Row {
@@ -108,35 +119,43 @@ fn counted(r: Row, same: bool) -> Row {
 }
 
 // The row that the next case belongs to: this one, or, once it is written, a new one.
-fn turned(r: Row, family: u32) -> Row {
+fn turned<W: Write>(out: &mut W, r: Row, family: u32) -> io::Result<Row> {
     if family == r.family {
-        return r;
+        return Ok(r);
     }
-    print(r);
-    fresh(family)
+    print(out, r)?;
+    Ok(fresh(family))
 }
 
 // Counts a case.
-pub fn told(t: Tally, family: u32, directed: bool, x: &[u8], n: usize, same: bool) -> Tally {
+pub fn told<W: Write>(
+    out: &mut W,
+    t: Tally,
+    family: u32,
+    directed: bool,
+    x: &[u8],
+    n: usize,
+    same: bool,
+) -> io::Result<Tally> {
     let r = t.row;
     let s = t.all;
-    let q = turned(r, family);
+    let q = turned(out, r, family)?;
     if directed {
-        line(family, x, n, same);
+        line(out, family, x, n, same)?;
     }
     let row = counted(q, same);
     let all = counted(s, same);
-    Tally { row, all }
+    Ok(Tally { row, all })
 }
 
 // Writes the last row, and the total.
-pub fn ended(t: Tally) {
+pub fn ended<W: Write>(out: &mut W, t: Tally) -> io::Result<()> {
     let r = t.row;
     let all = t.all;
-    print(r);
-    text(b"in all   cases ");
-    digits(all.cases);
-    text(b", differing ");
-    digits(all.differing);
-    text(b"\n");
+    print(out, r)?;
+    text(out, b"in all   cases ")?;
+    digits(out, all.cases)?;
+    text(out, b", differing ")?;
+    digits(out, all.differing)?;
+    text(out, b"\n")
 }

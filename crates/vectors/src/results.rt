@@ -6,7 +6,7 @@ use machine::{Control, Cpu, Registers, Reply};
 use micro32::Ran;
 
 // A reply by its number, with what it carries: a vector, an error code, and an address or an index.
-#[derive(Drop)]
+#[derive(Clone, Copy)]
 pub struct Told {
     number: u32,
     vector: u32,
@@ -15,7 +15,7 @@ pub struct Told {
 }
 
 // Where reading a case stands, after something was compared: the next byte, and whether all agreed so far.
-#[derive(Drop)]
+#[derive(Clone, Copy)]
 pub struct Place {
     pub at: u32,
     pub same: bool,

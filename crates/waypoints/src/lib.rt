@@ -1,4 +1,6 @@
 // The plan that a guest keeps in step with the ground: where it lies, the edits of it, and the ground's own copy.
+#![tactic(auto)]
+
 mod ground;
 mod place;
 
@@ -8,7 +10,7 @@ pub use place::{Found, Plan, RECORDS, find, has_records};
 use place::{position, put_position};
 
 // What was done to the plan before a pass: edits of one position, and lines of noise in the last bit.
-#[derive(Drop)]
+#[derive(Clone, Copy)]
 pub struct Applied {
     pub edits: u32,
     pub jitters: u32,

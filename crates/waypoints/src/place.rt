@@ -1,12 +1,12 @@
 // Where the plan lies. The kernel's records say so: a mark, the number of waypoints, the cabin's plan, the plan as sent.
-#[derive(Drop)]
+#[derive(Clone, Copy)]
 pub struct Plan {
     pub waypoints: u32,
     pub cabin: u32,
     pub sent: u32,
 }
 
-#[derive(Drop)]
+#[derive(Clone, Copy)]
 pub enum Found {
     Here(Plan),
     NoMark,

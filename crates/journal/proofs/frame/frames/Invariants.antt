@@ -1,0 +1,6 @@
+-- `frames` goes through the 1024 frames. Assumes nothing.
+use Rattle.std.proofs.Common.{◌-◌}
+use Rattle.journal.proofs.frame.frames.Given as goal
+
+abbrev pub decreases-loop-f : goal.decreases-loop-f
+decreases-loop-f l = 1024 - l.f
