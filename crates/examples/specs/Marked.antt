@@ -94,12 +94,12 @@ user cr3 = record { cr0 = 0x80000001; cr2 = 0; cr3 = cr3; ring = 3 }
 -- six frames, all 0 but these entries
 abbrev pub memory : List Placed → Mem
 memory [] = replicate 0x6000 0
-memory ((e lies_at_lem a) ∷ es) =
+memory ((e lies-at a) ∷ es) =
     set (set (set (set (memory es) a (e % 256)) (a + 1) (e / 256 % 256)) (a + 2) (e / 65536 % 256)) (a + 3) (e / 16777216)
 
 abbrev pub holds : Mem → List Placed → Bool
 holds m [] = true
-holds m ((e lies_at_lem a) ∷ es) = eqb (dword_at m a) e && holds m es
+holds m ((e lies-at a) ∷ es) = eqb (dword_at m a) e && holds m es
 
 -- after is the memory once the step has marked its page
 abbrev pub walks : Mem → Translation → Walked → Bool
@@ -197,7 +197,7 @@ examples =
     ∷ division (IDIV 0xffffffff 0x80000000 (minus 1)) Refused
     ∷ encoding (0x8b ∷ 0x44 ∷ 0xb3 ∷ 0x08 ∷ []) (MOV EAX (in_memory EBX ESI 4 8) 4)
     ∷ encoding (0x8b ∷ 0x04 ∷ 0x75 ∷ 0x00 ∷ 0x10 ∷ 0x00 ∷ 0x00 ∷ []) (MOV EAX (in_memory no_base ESI 2 0x1000) 7)
-    ∷ walk 0x1000 (0x2007 lies_at_lem 0x1004 ∷ 0x5005 lies_at_lem 0x200c ∷ []) (read 0x403a10)
-    (reaches 0x5a10 (0x2027 lies_at_lem 0x1004 ∷ 0x5025 lies_at_lem 0x200c ∷ []))
-    ∷ walk 0x1000 (0x2007 lies_at_lem 0x1004 ∷ 0x5005 lies_at_lem 0x200c ∷ []) (write 0x403a10) (ends (Fault 14 7 0x403a10))
+    ∷ walk 0x1000 (0x2007 lies-at 0x1004 ∷ 0x5005 lies-at 0x200c ∷ []) (read 0x403a10)
+    (reaches 0x5a10 (0x2027 lies-at 0x1004 ∷ 0x5025 lies-at 0x200c ∷ []))
+    ∷ walk 0x1000 (0x2007 lies-at 0x1004 ∷ 0x5005 lies-at 0x200c ∷ []) (write 0x403a10) (ends (Fault 14 7 0x403a10))
     ∷ []

@@ -36,9 +36,9 @@ use Rattle.hops.specs.Hops.{spotted, saved, Holds, Reaches, Spared, PagesOk}
 -- ---- what is asked
 
 module _ (p : Fast) where
-  want_first : (p.access ≡ 0 → ⊥) → asks 4 p ≡ false → want_first p ≡ asked (stores p) p.wide p.at
+  want_first_lem : (p.access ≡ 0 → ⊥) → asks 4 p ≡ false → want_first p ≡ asked (stores p) p.wide p.at
   unfolding want_first
-  want_first n h = by (asks 3 p) refl
+  want_first_lem n h = by (asks 3 p) refl
     where
       by : (w : Bool) → asks 3 p ≡ w → want_first p ≡ asked (stores p) p.wide p.at
       by true h' = rw (ne_eqb _ _ n, h, h')
@@ -48,9 +48,9 @@ module _ (p : Fast) where
   unfolding want_first
   want_no_first h = rw (eqb-true p.access 4 h)
 
-  want_second : asks 4 p ≡ true → want_second p ≡ asked (stores p) p.wide p.at
+  want_second_lem : asks 4 p ≡ true → want_second p ≡ asked (stores p) p.wide p.at
   unfolding want_second
-  want_second h = rw (eqb-true p.access 4 h)
+  want_second_lem h = rw (eqb-true p.access 4 h)
 
   want_no_second : asks 4 p ≡ false → want_second p ≡ Nothing
   unfolding want_second
@@ -115,7 +115,7 @@ module _ (m : Mem) (c : Control) (p : Fast) where
           one = nowhere;
           two = found v;
           firstly = rw (want_no_first p h) (nothing_held m c);
-          secondly = rw (want_second p h) (found_held v ev fits);
+          secondly = rw (want_second_lem p h) (found_held v ev fits);
           value = sym (k'.value ∙ ap (λ (b : Bool). cond b 0 v) h);
           operands = (k'.left, k'.right);
           quiet = found_quiet v;
@@ -124,7 +124,7 @@ module _ (m : Mem) (c : Control) (p : Fast) where
         by false h = record {
           one = found v;
           two = nowhere;
-          firstly = rw (want_first p n h) (found_held v ev fits);
+          firstly = rw (want_first_lem p n h) (found_held v ev fits);
           secondly = rw (want_no_second p h) (nothing_held m c);
           value = sym (k'.value ∙ ap (λ (b : Bool). cond b 0 v) h);
           operands = (k'.left, k'.right);
