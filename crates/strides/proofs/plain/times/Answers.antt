@@ -1,0 +1,6 @@
+use Rattle.alu.specs.Brief.{status_in}
+use Rattle.strides.proofs.Working.{settled, a_product}
+use Rattle.strides.proofs.plain.times.Goals as goal
+
+pub returns : goal.returns
+returns c = λ m k h d st he. settled m _ k c.args.r h d c.args.f st he (c.eight.ensures.1.1 c.args.f.b) c.eight.ensures.1.0 c.dwords-o.result (a_product c.args.f _ c.args.r.eip (status_in c.args.r.flags) c.requires.0 c.register.ensures) c.dwords-o.ensures c.settle.ensures.0 c.requires.1.1 c.settle.ensures.1
