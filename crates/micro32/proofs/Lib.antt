@@ -1,3 +1,2 @@
-mod Passed
 mod Runs
 mod Fresh
