@@ -6,3 +6,4 @@ pub mod Kept
 pub mod Ring3
 pub mod Noninterference
 pub mod Twins
+pub mod Numbered

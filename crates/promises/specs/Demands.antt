@@ -16,23 +16,12 @@ use Rattle.isolation.proofs.Kept.{step_still, run_kept, kept_alone, run_ends, ru
 use Rattle.isolation.proofs.Ring3.{run_guarded}
 use Rattle.isolation.proofs.Audited.{audit_safe, audit_outside, audit_exposed, audit_bad}
 use Rattle.phases.specs.Step.{micro32}
-use Rattle.std.proofs.Common.{arith}
+use Rattle.isolation.proofs.Numbered.{number_at_most}
 
 -- ---- demand 1: every answer is a numbered one, and only Done changes anything
 
 pub answer_numbered : (q : Reply) → (numbered q).number ≤ 10
-unfolding numbered
-answer_numbered Done = omega arith
-answer_numbered (Fault v e a) = omega arith
-answer_numbered (Trap v e) = omega arith
-answer_numbered (Halt e) = omega arith
-answer_numbered BadRecord = omega arith
-answer_numbered (NoMemory p) = omega arith
-answer_numbered (NotBuilt e) = omega arith
-answer_numbered Spent = omega arith
-answer_numbered Safe = omega arith
-answer_numbered (TableOutside i) = omega arith
-answer_numbered (Exposed a) = omega arith
+answer_numbered q = number_at_most q
 
 pub step_keeps : (m : Mem) (r : Cpu) → is_done (step micro32 m r).reply ≡ false → ((step micro32 m r).mem ≡ m) × ((step micro32 m r).cpu ≡ r)
 step_keeps m r = step_still micro32 m r
