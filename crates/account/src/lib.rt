@@ -71,11 +71,7 @@ pub fn begin<W: Write>(out: &mut W, r: Rows, pass: u32, plain: bool) -> io::Resu
     say(out, b"pass ")?;
     text::decimal(out, pass)?;
     say(out, b": ")?;
-    text::counted(
-        out,
-        table::get(&rows, pass, table::EDITS),
-        b" edit",
-    )?;
+    text::counted(out, table::get(&rows, pass, table::EDITS), b" edit")?;
     told_jitters(out, table::get(&rows, pass, table::JITTERS))
 }
 

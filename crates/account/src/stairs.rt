@@ -32,10 +32,7 @@ fn step<W: Write>(out: &mut W, rows: &[u32], pass: u32, total: u32) -> io::Resul
 // One step a pass. The last one says whether it is a landing.
 pub fn print<W: Write>(out: &mut W, rows: &[u32], last: u32, landed: bool) -> io::Result<()> {
     let total = table::sum(rows, table::SENT, last);
-    say(
-        out,
-        b"\npass   bytes  - paid before  # this pass\n",
-    )?;
+    say(out, b"\npass   bytes  - paid before  # this pass\n")?;
     let mut pass: u32 = 0;
     while pass < last {
         pass += 1;

@@ -17,10 +17,7 @@ fn is_waste(rows: &[u32], pass: u32, waypoints: u32) -> bool {
 }
 
 fn warn_of_waste<W: Write>(out: &mut W, rows: &[u32], pass: u32, sent: u32) -> io::Result<()> {
-    say(
-        out,
-        b" sent the whole plan although nothing changed: ",
-    )?;
+    say(out, b" sent the whole plan although nothing changed: ")?;
     amount(out, sent, table::get(rows, pass, table::BYTES))?;
     if table::get(rows, pass, table::JITTERS) != 0 {
         say(out, b" for noise in the last bit")?;
@@ -75,15 +72,9 @@ fn total<W: Write>(out: &mut W, rows: &[u32], last: u32) -> io::Result<()> {
 
 fn ground<W: Write>(out: &mut W, differing: u32, waypoints: u32) -> io::Result<()> {
     if differing == 0 {
-        say(
-            out,
-            b"the ground's plan agrees with the cabin's in all ",
-        )?;
+        say(out, b"the ground's plan agrees with the cabin's in all ")?;
     } else {
-        say(
-            out,
-            b"the ground's plan differs from the cabin's in ",
-        )?;
+        say(out, b"the ground's plan differs from the cabin's in ")?;
         decimal(out, differing)?;
         say(out, b" of ")?;
     }
@@ -99,16 +90,8 @@ pub fn lines<W: Write>(
     landed: bool,
 ) -> io::Result<()> {
     text::count_line(out, b"total.passes", last)?;
-    text::count_line(
-        out,
-        b"total.sent",
-        table::sum(rows, table::SENT, last),
-    )?;
-    text::count_line(
-        out,
-        b"total.bytes",
-        table::sum(rows, table::BYTES, last),
-    )?;
+    text::count_line(out, b"total.sent", table::sum(rows, table::SENT, last))?;
+    text::count_line(out, b"total.bytes", table::sum(rows, table::BYTES, last))?;
     text::count_line(out, b"ground.differing", differing)?;
     text::count_line(out, b"landing", if landed { 1 } else { 0 })
 }

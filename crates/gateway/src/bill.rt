@@ -136,15 +136,7 @@ fn play(
 ) -> io::Result<Played> {
     let before = journal::number(micro32::audit(c, mem));
     let v = report::voice(o.plain);
-    let r = pass::play(
-        &mut rt.stdout(),
-        mem,
-        ground,
-        waypoints,
-        c,
-        o.budget,
-        v,
-    )?;
+    let r = pass::play(&mut rt.stdout(), mem, ground, waypoints, c, o.budget, v)?;
     seen(rt, mem, copies, k, before, r)
 }
 

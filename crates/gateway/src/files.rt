@@ -73,10 +73,7 @@ pub fn read(rt: &HostRuntime, i: usize, b: &mut [u8]) -> io::Result<usize>
     if w.more {
         ask::begin(rt, i)?;
         let mut err = rt.stderr();
-        text::say(
-            &mut err,
-            b"the file does not fit; there is room for ",
-        )?;
+        text::say(&mut err, b"the file does not fit; there is room for ")?;
         write!(err, "{}", w.n)?;
         text::say(&mut err, b" bytes\n")?;
         return Ok(0);
@@ -157,13 +154,7 @@ fn nothing() -> Ready {
 }
 
 // The record in the first n bytes of b.
-fn record_in(
-    rt: &HostRuntime,
-    b: &[u8],
-    n: usize,
-    size: usize,
-    bytes: u32,
-) -> io::Result<Ready> {
+fn record_in(rt: &HostRuntime, b: &[u8], n: usize, size: usize, bytes: u32) -> io::Result<Ready> {
     if n <= b.len() {
         return record(rt, &b[0..n], size, bytes);
     }
@@ -181,11 +172,5 @@ pub fn prepare(rt: &HostRuntime, mem: &mut [u8], o: Order) -> io::Result<Ready> 
     if n == 0 {
         return Ok(nothing());
     }
-    record_in(
-        rt,
-        &b,
-        n,
-        mem.len(),
-        (bytes % 4294967296) as u32,
-    )
+    record_in(rt, &b, n, mem.len(), (bytes % 4294967296) as u32)
 }

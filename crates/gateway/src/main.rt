@@ -48,11 +48,7 @@ fn obey(rt: &HostRuntime, mem: &mut [u8], copies: &mut [u8]) -> io::Result<()> {
     } else if (ask::count(rt) < 2) | ask::is(rt, 1, b"help") {
         help(rt)
     } else {
-        ask::complain(
-            rt,
-            1,
-            b"no such command; there are run, bill and help",
-        )
+        ask::complain(rt, 1, b"no such command; there are run, bill and help")
     }
 }
 

@@ -77,11 +77,7 @@ fn numbers(rt: &HostRuntime, plain: bool) -> io::Result<Asked> {
         );
     }
     if size <= load {
-        return refused(
-            rt,
-            LOAD,
-            b"the load address lies past the end of memory",
-        );
+        return refused(rt, LOAD, b"the load address lies past the end of memory");
     }
     Ok(Asked::Order(Order {
         load,

@@ -13,13 +13,7 @@ fn is_users(mem: &[u8], c: Control, linear: u32) -> bool {
 }
 
 // What kind of page refused the access.
-fn page<W: Write>(
-    out: &mut W,
-    mem: &[u8],
-    c: Control,
-    code: u32,
-    linear: u32,
-) -> io::Result<()> {
+fn page<W: Write>(out: &mut W, mem: &[u8], c: Control, code: u32, linear: u32) -> io::Result<()> {
     if code % 2 == 0 {
         return say(out, b"an absent page");
     }

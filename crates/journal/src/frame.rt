@@ -25,13 +25,7 @@ fn plus(n: u32) -> u32 {
     std::num::wrapping_add_u32(n, 1)
 }
 
-fn tell<W: Write>(
-    out: &mut W,
-    v: Voice,
-    f: u32,
-    key: &[u8],
-    words: &[u8],
-) -> io::Result<()> {
+fn tell<W: Write>(out: &mut W, v: Voice, f: u32, key: &[u8], words: &[u8]) -> io::Result<()> {
     let at = f % 1048576 * 4096;
     match v {
         Voice::Words => {
@@ -100,13 +94,7 @@ fn one<W: Write>(out: &mut W, v: Voice, f: u32, k: Kind, t: Tally) -> io::Result
             Ok(marks(t))
         }
         Kind::Kernel => {
-            tell(
-                out,
-                v,
-                f,
-                b"kernel",
-                b"the kernel's: written in ring 0",
-            )?;
+            tell(out, v, f, b"kernel", b"the kernel's: written in ring 0")?;
             Ok(other(t))
         }
         Kind::Neither => {

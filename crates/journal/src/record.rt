@@ -43,13 +43,7 @@ fn value(c: Cpu, n: u32) -> u32 {
     }
 }
 
-fn named<W: Write>(
-    out: &mut W,
-    before: &[u8],
-    n: u32,
-    between: &[u8],
-    x: u32,
-) -> io::Result<()> {
+fn named<W: Write>(out: &mut W, before: &[u8], n: u32, between: &[u8], x: u32) -> io::Result<()> {
     say(out, before)?;
     name(out, n)?;
     say(out, between)?;

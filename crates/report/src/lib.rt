@@ -30,31 +30,11 @@ fn answer<W: Write>(
 }
 
 // What ended a pass.
-pub fn reply<W: Write>(
-    out: &mut W,
-    mem: &[u8],
-    c: Cpu,
-    q: Reply,
-    plain: bool,
-) -> io::Result<()> {
-    answer(
-        out,
-        mem,
-        c,
-        q,
-        plain,
-        b"reply",
-        b"  reply         ",
-    )
+pub fn reply<W: Write>(out: &mut W, mem: &[u8], c: Cpu, q: Reply, plain: bool) -> io::Result<()> {
+    answer(out, mem, c, q, plain, b"reply", b"  reply         ")
 }
 
-fn work<W: Write>(
-    out: &mut W,
-    sent: u32,
-    bytes: u32,
-    steps: u32,
-    plain: bool,
-) -> io::Result<()> {
+fn work<W: Write>(out: &mut W, sent: u32, bytes: u32, steps: u32, plain: bool) -> io::Result<()> {
     if plain {
         text::count_line(out, b"sent", sent)?;
         text::count_line(out, b"bytes", bytes)?;
@@ -98,11 +78,7 @@ pub fn records<W: Write>(
 ) -> io::Result<()> {
     let same = frames::is_same(mem, copies, slots, waypoints::RECORDS / 4096);
     if plain {
-        text::count_line(
-            out,
-            b"records.untouched",
-            if same { 1 } else { 0 },
-        )
+        text::count_line(out, b"records.untouched", if same { 1 } else { 0 })
     } else if same {
         label(
             out,
@@ -152,15 +128,7 @@ pub fn after<W: Write>(
 // What the audit says before a pass.
 pub fn before<W: Write>(out: &mut W, mem: &[u8], c: Cpu, plain: bool) -> io::Result<()> {
     let q = micro32::audit(c, mem);
-    answer(
-        out,
-        mem,
-        c,
-        q,
-        plain,
-        b"audit_before",
-        b"  audit before  ",
-    )
+    answer(out, mem, c, q, plain, b"audit_before", b"  audit before  ")
 }
 
 fn placed<W: Write>(out: &mut W, bytes: u32, load: u32, size: u32) -> io::Result<()> {

@@ -124,15 +124,7 @@ fn judged(directed: bool, turns: u32, k: Case, mem: &mut Memory, want: &mut Memo
 fn told<W: Write>(out: &mut W, t: Tally, directed: bool, k: Case, same: bool) -> io::Result<Tally> {
     let asks = k.asks;
     let b = k.bytes;
-    report::told(
-        out,
-        t,
-        reading::number(&b, 0),
-        directed,
-        &asks,
-        k.n,
-        same,
-    )
+    report::told(out, t, reading::number(&b, 0), directed, &asks, k.n, same)
 }
 
 // Counts the cases of a file, on from what was counted before.
@@ -188,21 +180,7 @@ fn file(
 fn main(rt: HostRuntime) -> io::Result<()> {
     let mut mem = [0u8; 32768];
     let mut want = [0u8; 32768];
-    let generated = file(
-        &rt,
-        "cases",
-        false,
-        report::nothing(),
-        &mut mem,
-        &mut want,
-    )?;
-    let all = file(
-        &rt,
-        "directed",
-        true,
-        generated,
-        &mut mem,
-        &mut want,
-    )?;
+    let generated = file(&rt, "cases", false, report::nothing(), &mut mem, &mut want)?;
+    let all = file(&rt, "directed", true, generated, &mut mem, &mut want)?;
     report::ended(&mut rt.stdout(), all)
 }

@@ -61,13 +61,7 @@ fn name<W: Write>(out: &mut W, family: u32) -> io::Result<()> {
 }
 
 // A directed case's line. Its rule stands at bytes 22 to n of what it asks.
-fn line<W: Write>(
-    out: &mut W,
-    family: u32,
-    x: &[u8],
-    n: usize,
-    same: bool,
-) -> io::Result<()> {
+fn line<W: Write>(out: &mut W, family: u32, x: &[u8], n: usize, same: bool) -> io::Result<()> {
     name(out, family)?;
     if same {
         text(out, b" agrees: ")?;
@@ -87,10 +81,7 @@ fn print<W: Write>(out: &mut W, r: Row) -> io::Result<()> {
     text(out, b" cases ")?;
     digits(out, r.cases)?;
     text(out, b", agreed ")?;
-    digits(
-        out,
-        std::num::wrapping_sub_u32(r.cases, r.differing),
-    )?;
+    digits(out, std::num::wrapping_sub_u32(r.cases, r.differing))?;
     text(out, b", differing ")?;
     digits(out, r.differing)?;
     if r.differing != 0 {

@@ -1,7 +1,6 @@
 -- `cells::copy` puts one byte more over each time, so that all are over at the end. Assumes nothing.
-use Rattle.std.proofs.Common.{refl, arith, ◌≡◌}
-use Rattle.cells.specs.Cells.{copied}
-use Rattle.cells.proofs.Copying.{copied_none, copied_on, copied_all}
+use Rattle.std.proofs.Common.{arith}
+use Rattle.cells.proofs.Copying.{copied_none, copied_on}
 use Rattle.cells.proofs.copy.Goals as goal
 
 pub loop-k-init : goal.loop-k-init

@@ -2,4 +2,4 @@
 use Rattle.pass.proofs.play.Given as goal
 
 abbrev pub decreases-loop-left : goal.decreases-loop-left
-decreases-loop-left l = l.left
+decreases-loop-left g l = l.left

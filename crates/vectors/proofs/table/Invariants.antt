@@ -3,4 +3,4 @@ use Rattle.std.proofs.Common.{◌-◌}
 use Rattle.vectors.proofs.table.Given as goal
 
 abbrev pub decreases-loop-turns : goal.decreases-loop-turns
-decreases-loop-turns l = 65536 - l.turns
+decreases-loop-turns g l = 65536 - l.turns

@@ -3,4 +3,4 @@ use Rattle.std.proofs.Common.{◌-◌}
 use Rattle.account.proofs.table.lines.Given as goal
 
 abbrev pub decreases-loop-column : goal.decreases-loop-column
-decreases-loop-column l = l.to - l.column
+decreases-loop-column g l = l.to - l.column

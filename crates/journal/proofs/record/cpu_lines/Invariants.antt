@@ -3,4 +3,4 @@ use Rattle.std.proofs.Common.{◌-◌}
 use Rattle.journal.proofs.record.cpu_lines.Given as goal
 
 abbrev pub decreases-loop-n : goal.decreases-loop-n
-decreases-loop-n l = 14 - l.n
+decreases-loop-n g l = 14 - l.n
