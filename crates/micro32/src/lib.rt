@@ -1,4 +1,4 @@
-// Micro32: step, run and audit, and the last two for a host in C or Rust. No caller checks anything first.
+// Micro32: step, run and audit, and the last two for a host in C or Rust (micro32_c gives them their C names). No caller checks anything first.
 #![tactic(auto)]
 
 ghost use Rattle.std.specs.Prelude.{◌≡◌, true};
@@ -234,8 +234,7 @@ fn run_answered(c: Cpu, mem: &mut [u8], budget: u32) -> Advanced
 }
 
 // The run for a host: the record is lent, and is advanced in place.
-#[unsafe(no_mangle)]
-pub extern "C" fn micro32_run(cpu: &mut Cpu, mem: &mut [u8], budget: u32) -> Answer
+pub fn micro32_run(cpu: &mut Cpu, mem: &mut [u8], budget: u32) -> Answer
     ensures { record { answer = result; cpu = cpu.new; mem = mem.new } ≡ ran_answered (run micro32 budget mem.old cpu.old) }
 {
     let c = *cpu;
@@ -245,8 +244,7 @@ pub extern "C" fn micro32_run(cpu: &mut Cpu, mem: &mut [u8], budget: u32) -> Ans
 }
 
 // The audit for a host. Its count is 0.
-#[unsafe(no_mangle)]
-pub extern "C" fn micro32_audit(cpu: Cpu, mem: &[u8]) -> Answer
+pub fn micro32_audit(cpu: Cpu, mem: &[u8]) -> Answer
     ensures { result ≡ answer_of (audit mem.now cpu) 0 }
 {
     let q = audit(cpu, mem);
