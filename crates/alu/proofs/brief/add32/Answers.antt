@@ -12,6 +12,7 @@ use Rattle.alu.proofs.brief.add32.Goals as goal
 
 abbrev brief : ℕ → ℕ → Short
 brief x t = record { value = t % 4294967296; flags = record { out = t / 4294967296; into = bit_xor x (t % 4294967296); seen = t % 4294967296 } }
+
 added : (a b k : ℕ) → a < 4294967296 → b < 4294967296 → k ≤ 1 → out_in (brief (bit_xor a b) (a + b + k)) ≡ sum 32 a b k
 unfolding sum_status
 added a b k ha hb hk =

@@ -13,6 +13,7 @@ use Rattle.alu.proofs.brief.sub32.Goals as goal
 
 abbrev brief : ℕ → ℕ → ℕ → Short
 brief o x r = record { value = r; flags = record { out = o; into = bit_xor x r; seen = r } }
+
 taken : (a b k o : ℕ) → a < 4294967296 → b < 4294967296 → k ≤ 1 → o ≡ bit (ltb a (b + k))
     → out_in (brief o (bit_xor a b) ((4294967296 + a - (b + k)) % 4294967296)) ≡ difference 32 a b k
 unfolding difference_status
