@@ -1,5 +1,5 @@
 // Tells the linker where libmicro32.a is: in the folder that MICRO32_LIB names, else in ../target/staticlib, where
-// `rt staticlib micro32` writes it.
+// `host/library` writes it.
 use std::env;
 use std::path::PathBuf;
 
@@ -8,7 +8,7 @@ fn main() {
     let folder = env::var("MICRO32_LIB").map(PathBuf::from).unwrap_or_else(|_| here.join("../target/staticlib"));
     let file = folder.join("libmicro32.a");
     if !file.exists() {
-        panic!("{} is not there: run `rt staticlib micro32` at the top of the repository, or set MICRO32_LIB", file.display());
+        panic!("{} is not there: run `host/library` at the top of the repository, or set MICRO32_LIB", file.display());
     }
     println!("cargo:rustc-link-search=native={}", folder.display());
     println!("cargo:rustc-link-lib=static=micro32");

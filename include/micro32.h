@@ -1,6 +1,6 @@
 /* Micro32: a software 80386, proved, for a host in C or C++ to link.
  *
- * This file is the one place where the layout is written for C. Link with libmicro32.a, which `rt staticlib micro32`
+ * This file is the one place where the layout is written for C. Link with libmicro32.a, which `host/library`
  * writes to target/staticlib/. The library keeps nothing between calls, allocates nothing, and calls nothing back.
  */
 #ifndef MICRO32_H
