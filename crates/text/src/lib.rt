@@ -1,26 +1,36 @@
-// Words and numbers written to a writer, in columns that stay where they are. A call that answers Ok has written all of its text.
+// Words and numbers written to a writer, in columns that stay where they are. A call that answers Ok has written all of its text; where the
+// writer failed, it may have written the start of it.
 #![tactic(auto)]
 
-ghost use Rattle.std.specs.Prelude.{◌≤◌};
+ghost use Rattle.std.specs.Prelude.{◌≤◌, ◌++◌, ◌==◌, if◌then◌else◌, [], OnOk, codes, decimal, replicate, take};
+ghost use Rattle.std.specs.Io.KnownBytes.{Appends};
 
 use std::alloc::Global;
 use std::io;
 use std::io::Write;
 
-pub fn say<W: Write>(out: &mut W, words: &[u8]) -> io::Result<()> {
+pub fn say<W: Write>(out: &mut W, words: &[u8]) -> io::Result<()>
+    ensures { OnOk result (Appends (W.contents out.old) (W.contents out.new) words.now) }
+{
     out.write_all(words)
 }
 
-pub fn end<W: Write>(out: &mut W) -> io::Result<()> {
+pub fn end<W: Write>(out: &mut W) -> io::Result<()>
+    ensures { OnOk result (Appends (W.contents out.old) (W.contents out.new) (codes "\n")) }
+{
     say(out, b"\n")
 }
 
-pub fn decimal<W: Write>(out: &mut W, n: u32) -> io::Result<()> {
+pub fn decimal<W: Write>(out: &mut W, n: u32) -> io::Result<()>
+    ensures { OnOk result (Appends (W.contents out.old) (W.contents out.new) (decimal n)) }
+{
     write!(out, "{n}")
 }
 
 // The first n bytes of words, or all of them.
-pub fn part<W: Write>(out: &mut W, words: &[u8], n: usize) -> io::Result<()> {
+pub fn part<W: Write>(out: &mut W, words: &[u8], n: usize) -> io::Result<()>
+    ensures { OnOk result (Appends (W.contents out.old) (W.contents out.new) (take n words.now)) }
+{
     if n <= words.len() {
         say(out, &words[0..n])
     } else {
@@ -29,7 +39,9 @@ pub fn part<W: Write>(out: &mut W, words: &[u8], n: usize) -> io::Result<()> {
 }
 
 // The sign b, n times, and at most 64 times.
-pub fn fill<W: Write>(out: &mut W, b: u8, n: u32) -> io::Result<()> {
+pub fn fill<W: Write>(out: &mut W, b: u8, n: u32) -> io::Result<()>
+    ensures { OnOk result (Appends (W.contents out.old) (W.contents out.new) (take n (replicate 64 b))) }
+{
     let row = [b; 64];
     part(out, &row, n as usize)
 }
@@ -71,7 +83,9 @@ pub fn column<W: Write>(out: &mut W, n: u32, width: u32) -> io::Result<()> {
 }
 
 // n of something, whose name takes an s unless there is one of it.
-pub fn counted<W: Write>(out: &mut W, n: u32, name: &[u8]) -> io::Result<()> {
+pub fn counted<W: Write>(out: &mut W, n: u32, name: &[u8]) -> io::Result<()>
+    ensures { OnOk result (Appends (W.contents out.old) (W.contents out.new) (decimal n ++ name.now ++ (if n == 1 then [] else codes "s"))) }
+{
     decimal(out, n)?;
     say(out, name)?;
     if n != 1 {
@@ -105,7 +119,9 @@ pub fn hex<W: Write>(out: &mut W, x: u32) -> io::Result<()> {
 }
 
 // A line `key=value`, in decimal.
-pub fn count_line<W: Write>(out: &mut W, key: &[u8], n: u32) -> io::Result<()> {
+pub fn count_line<W: Write>(out: &mut W, key: &[u8], n: u32) -> io::Result<()>
+    ensures { OnOk result (Appends (W.contents out.old) (W.contents out.new) (key.now ++ codes "=" ++ decimal n ++ codes "\n")) }
+{
     say(out, key)?;
     say(out, b"=")?;
     decimal(out, n)?;
@@ -121,7 +137,9 @@ pub fn address_line<W: Write>(out: &mut W, key: &[u8], x: u32) -> io::Result<()>
 }
 
 // A line `key=value`, in words.
-pub fn word_line<W: Write>(out: &mut W, key: &[u8], word: &[u8]) -> io::Result<()> {
+pub fn word_line<W: Write>(out: &mut W, key: &[u8], word: &[u8]) -> io::Result<()>
+    ensures { OnOk result (Appends (W.contents out.old) (W.contents out.new) (key.now ++ codes "=" ++ word.now ++ codes "\n")) }
+{
     say(out, key)?;
     say(out, b"=")?;
     say(out, word)?;
