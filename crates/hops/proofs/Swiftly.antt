@@ -17,7 +17,7 @@ use Rattle.machine.specs.declared.Control.{Control}
 use Rattle.machine.specs.declared.Core.{Core}
 use Rattle.machine.specs.declared.Cpu.{Cpu}
 use Rattle.machine.specs.declared.Reply.TheVariants.{Done}
-use Rattle.machine.specs.Record.{Mem, at, wrap, iopl, has, sound, with_core, with_register}
+use Rattle.machine.specs.Record.{Mem, wrap, iopl, has, sound, with_core, with_register}
 use Rattle.machine.specs.Replies.{is_done}
 use Rattle.machine.specs.Paging.{At, translate, view}
 use Rattle.machine.specs.Commit.{Patch, patches}

@@ -1,6 +1,6 @@
 -- Quick steps: a step in its short form, on pages that are kept, where nothing can refuse and nothing is left to mark.
 -- Assumes nothing.
-use Rattle.std.specs.Prelude.{ℕ, ◌+◌, ◌-◌, ◌/◌, ◌%◌, ◌≤◌, ◌≡◌, Bool, true, false, cond, List, length}
+use Rattle.std.specs.Prelude.{ℕ, ◌+◌, ◌-◌, ◌≤◌, ◌≡◌, true, false, cond, List, length}
 use Rattle.alu.specs.declared.Out.{Out}
 use Rattle.alu.specs.Brief.{status_in}
 use Rattle.machine.specs.declared.Control.{Control}

@@ -1,16 +1,16 @@
 -- A page whose two entries let an access through, with their marks set already: it is reached, and marking it changes nothing.
 -- Assumes nothing.
-use Rattle.std.proofs.Common.{◌≡◌, ℕ, zero, suc, ◌+◌, ◌*◌, ◌/◌, ◌%◌, ◌<◌, ◌≤◌, Bool, true, false, cond, not, ◌&&◌, ◌||◌, eqb, List, [], ◌∷◌, length, get_or, set, sym, refl, ap, ◌∙◌, arith, eq-eqb, eqb-true}
+use Rattle.std.proofs.Common.{◌≡◌, ℕ, zero, suc, ◌+◌, ◌*◌, ◌/◌, ◌%◌, ◌<◌, ◌≤◌, Bool, true, false, not, ◌&&◌, ◌||◌, eqb, [], ◌∷◌, length, get_or, set, sym, refl, ap, ◌∙◌, arith, eqb-true}
 use mathlib.Core.Bool.{false≢true}
 use Rattle.machine.specs.declared.Control.{Control}
-use Rattle.machine.specs.Record.{Mem, at, has, paging, user, write_protect}
-use Rattle.machine.specs.Paging.{Mapped, dword_at, slot, dir_frame, dir_index, tab_index, page_of, rights}
-use Rattle.machine.specs.Commit.{Patch, patch, patches, mark}
+use Rattle.machine.specs.Record.{Mem, at, has, paging, user}
+use Rattle.machine.specs.Paging.{dword_at, slot, dir_frame, dir_index, tab_index, rights}
+use Rattle.machine.specs.Commit.{patch, patches, mark}
 use Rattle.paging.specs.declared.Marks.TheVariants.{None, Entries}
 use Rattle.keptpages.specs.declared.Pair.{Pair}
 use Rattle.keptpages.specs.declared.Kept.{Kept}
-use Rattle.paging.specs.Walked.{Walked, patches_of}
-use Rattle.keptpages.specs.Quiet.{Quiet, Pairs, held_to_write, passes, usable, Agree, Stays, KeptOk}
+use Rattle.paging.specs.Walked.{patches_of}
+use Rattle.keptpages.specs.Quiet.{Quiet, Pairs, held_to_write, passes, usable, Agree, KeptOk}
 use Rattle.paging.proofs.Cases.{mapped, on_at, paged, unpaged, flat_at}
 
 -- ---- bits

@@ -1,6 +1,6 @@
 -- Pages that can be used with nothing left to mark: what the quick way through a run asks of the maps.
 -- Assumes nothing.
-use Rattle.std.specs.Prelude.{◌≡◌, ℕ, ◌+◌, ◌*◌, ◌/◌, ◌%◌, ◌<◌, ◌≤◌, Bool, true, false, not, ◌&&◌, ◌||◌, List, length, ◌==◌, nat_le, slice_index_or}
+use Rattle.std.specs.Prelude.{◌≡◌, ℕ, ◌+◌, ◌/◌, ◌%◌, ◌<◌, ◌≤◌, Bool, false, not, ◌&&◌, ◌||◌, List, length, ◌==◌, nat_le, slice_index_or}
 use Rattle.machine.specs.Record.{Mem, at, has, user, write_protect}
 use Rattle.machine.specs.declared.Control.{Control}
 use Rattle.machine.specs.Paging.{dword_at, slot, dir_frame, dir_index, tab_index}

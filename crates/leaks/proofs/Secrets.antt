@@ -6,7 +6,7 @@ use native.Mathlib.Omega.{arith}
 use native.Mathlib.Decide.{ℕ_discrete}
 use Rattle.machine.specs.declared.Control.{Control}
 use Rattle.machine.specs.declared.Reply.TheVariants.{Safe}
-use Rattle.machine.specs.Record.{at, sound_at, sound}
+use Rattle.machine.specs.Record.{sound_at, sound}
 use Rattle.machine.specs.Paging.{Names, entry}
 use Rattle.machine.specs.Audit.{audit}
 use Rattle.isolation.specs.Guarded.{TableFrame, directory, table, MappedFrame}

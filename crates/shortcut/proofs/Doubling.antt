@@ -1,6 +1,6 @@
 -- MUL by a register: the instruction that the definition decodes, and its two registers.
 -- Assumes nothing.
-use Rattle.std.proofs.Common.{◌≡◌, ℕ, ◌+◌, ◌/◌, ◌%◌, Bool, true, false, List, refl, ◌∙◌}
+use Rattle.std.proofs.Common.{◌≡◌, ℕ, ◌+◌, ◌/◌, ◌%◌, Bool, true, List, refl, ◌∙◌}
 use mathlib.Core.Bool.{false≢true}
 use Rattle.alu.specs.declared.Status.{Status}
 use Rattle.machine.specs.declared.Core.{Core}

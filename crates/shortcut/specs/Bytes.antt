@@ -1,6 +1,6 @@
 -- What the decoder reads where all the bytes are there: an operand, as a function of memory. j is the index of the byte after ModRM.
 -- Assumes nothing.
-use Rattle.std.specs.Prelude.{◌≡◌, ℕ, ◌+◌, ◌/◌, ◌%◌, ◌<◌, Bool, false, cond, ◌&&◌, List, ◌==◌, nat_le}
+use Rattle.std.specs.Prelude.{◌≡◌, ℕ, ◌+◌, ◌/◌, ◌%◌, ◌<◌, Bool, false, cond, ◌&&◌, ◌==◌, nat_le}
 use Rattle.machine.specs.Record.{Mem, at, wrap}
 use Rattle.machine.specs.Paging.{View, Byte, dword_at}
 use Rattle.encoding.specs.declared.Operand.{Operand}

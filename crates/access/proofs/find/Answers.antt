@@ -1,4 +1,3 @@
-use borrow.Author.Tests.{not-true, not-false}
 use Rattle.access.proofs.find.Goals as goal
 
 pub returns-then-not-wide : goal.returns-then-not-wide

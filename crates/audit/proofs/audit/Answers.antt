@@ -1,6 +1,5 @@
 use Rattle.machine.specs.Audit.{audit, need}
 use Rattle.audit.proofs.Answers.{whole_frames, few_frames}
-use borrow.Author.Tests.{not-true, not-false}
 use mathlib.Core.Path.{sym, ◌∙◌}
 use Rattle.audit.proofs.audit.Goals as goal
 

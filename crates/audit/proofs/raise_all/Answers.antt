@@ -1,5 +1,4 @@
 use Rattle.audit.proofs.Held.{flags_none, flags_more}
-use Prim.Native.Nat.{◌-◌}
 use borrow.Author.Rules.{rules}
 use native.Mathlib.Omega.{arith}
 use mathlib.Core.Path.{◌≡◌, sym, ◌∙◌}

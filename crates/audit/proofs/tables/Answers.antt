@@ -4,7 +4,7 @@ use Rattle.audit.proofs.Answers.{no_directory, no_table, opened, all_safe}
 use Rattle.audit.proofs.First.{small}
 use Rattle.audit.specs.Searched.{found_of}
 use borrow.Author.Rules.{rules}
-use borrow.Author.Tests.{not-true, not-false, ltb-true}
+use borrow.Author.Tests.{ltb-true}
 use mathlib.Core.Path.{sym, ap, ◌∙◌}
 use Rattle.audit.proofs.tables.Goals as goal
 

@@ -1,5 +1,4 @@
 use Rattle.blocks.proofs.Tables.{begun_none, begun_on}
-use Prim.Native.Nat.{◌-◌}
 use borrow.Author.Rules.{rules}
 use native.Mathlib.Omega.{arith}
 use Rattle.blocks.proofs.begin.Goals as goal

@@ -1,7 +1,6 @@
 use borrow.Author.Rules.{rules}
 use native.Mathlib.Omega.{arith}
 use Rattle.blocks.proofs.Building.{built_none, built_on, built_done, going}
-use Prim.Native.Nat.{◌-◌}
 use Rattle.blocks.proofs.build.Goals as goal
 
 pub loop-j-init : goal.loop-j-init

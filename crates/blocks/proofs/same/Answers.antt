@@ -1,6 +1,5 @@
 use Rattle.blocks.proofs.Keys.{keyed_short, keyed_whole, joined}
 use mathlib.Core.Bool.{false≢true}
-use borrow.Author.Tests.{not-false}
 use Rattle.blocks.proofs.same.Goals as goal
 
 pub returns-then-not-four : goal.returns-then-not-four

@@ -1,6 +1,6 @@
 use lib.Dec.{eqb}
 use Rattle.encoding.specs.Encodings.{override}
-use Prim.Native.Nat.{ℕ, ◌-◌}
+use Prim.Native.Nat.{ℕ}
 use Rattle.fetch.proofs.Laws.{got, missed, byte_small}
 use Rattle.decode.proofs.Laws.{override_on, override_off, override_miss, override_end}
 use borrow.Author.Rules.{rules}

@@ -1,4 +1,3 @@
-use borrow.Author.Tests.{eqb-true, eqb-false, not-false}
 use Rattle.forms.proofs.Reading.{none_read, under_ten, read_from, read_load, read_compare, read_move}
 use borrow.Author.Rules.{rules}
 use native.Mathlib.Omega.{arith}

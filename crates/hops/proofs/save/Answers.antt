@@ -1,5 +1,4 @@
 use Rattle.hops.proofs.Seeking.{unsaved, saved_all}
-use borrow.Author.Tests.{not-true, not-false}
 use mathlib.Core.Path.{◌∙◌}
 use Rattle.hops.proofs.save.Goals as goal
 

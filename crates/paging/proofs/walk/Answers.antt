@@ -1,5 +1,4 @@
 use Rattle.paging.proofs.Cases.{dir_beyond, dir_absent, tab_beyond, tab_absent, mapped, on_beyond, on_absent, on_rights, on_past, on_at}
-use borrow.Author.Tests.{not-true, not-false}
 use native.Mathlib.Omega.{arith}
 use mathlib.Core.Path.{sym, ◌∙◌}
 use Rattle.paging.proofs.walk.Goals as goal

@@ -1,5 +1,4 @@
 use Rattle.phases.proofs.Plans.{at_unready, at_forbidden, at_first, at_second, at_ready}
-use borrow.Author.Tests.{not-true, not-false}
 use Rattle.phases.proofs.plan.Goals as goal
 
 pub returns-in_default : goal.returns-in_default

@@ -1,6 +1,5 @@
 use Rattle.shortcut.proofs.Taken.{not_taken, taken_number}
 use Rattle.std.proofs.Common.{refl}
-use borrow.Author.Tests.{not-false}
 use Rattle.shortcut.proofs.numbered.Goals as goal
 
 pub returns-then-not-group-m : goal.returns-then-not-group-m

@@ -1,8 +1,6 @@
-use mathlib.Core.Option.{none}
-use Rattle.machine.specs.Audit.{first}
 use Rattle.audit.proofs.First.{start, next}
 use Rattle.frames.proofs.Tables.{directory, table, neither}
-use Rattle.std.proofs.Common.{◌≡◌, ◌-◌, sym, ◌∙◌, arith, rules}
+use Rattle.std.proofs.Common.{◌≡◌, sym, ◌∙◌, arith, rules}
 use Rattle.frames.proofs.maps.holds_table.Goals as goal
 
 -- The directory itself, or the first entry that names the frame, or none of them. Assumes nothing.

@@ -1,9 +1,7 @@
-use mathlib.Core.Option.{none}
-use Rattle.machine.specs.Audit.{first}
 use Rattle.audit.proofs.First.{start, next}
 use Rattle.frames.specs.Users.{opened}
 use Rattle.frames.proofs.Tables.{found, missed}
-use Rattle.std.proofs.Common.{◌≡◌, ◌-◌, sym, ◌∙◌, arith, rules}
+use Rattle.std.proofs.Common.{◌≡◌, sym, ◌∙◌, arith, rules}
 use Rattle.frames.proofs.maps.opens.Goals as goal
 
 -- The first that passes, or none of them. Assumes nothing.

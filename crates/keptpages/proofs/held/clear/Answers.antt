@@ -1,5 +1,5 @@
 use Rattle.keptpages.proofs.Holding.{held_none, cleared_on}
-use Rattle.std.proofs.Common.{◌-◌, refl, ◌∙◌, arith, length-set, rules}
+use Rattle.std.proofs.Common.{refl, ◌∙◌, arith, length-set, rules}
 use Rattle.keptpages.proofs.held.clear.Goals as goal
 
 pub loop-i-init : goal.loop-i-init
