@@ -7,59 +7,70 @@ use given::{Listed, Slip};
 use journal::{Tally, Voice};
 use machine::Cpu;
 use pass::Passed;
+use std::env::Env;
 use std::io;
+use std::io::Write;
+use std::rt::Files;
 use waypoints::{Found, Plan};
 
-fn no_plan(rt: &HostRuntime, f: Found) -> io::Result<()> {
+fn no_plan<R: Env, E: Write>(rt: &R, err: &mut E, f: Found) -> io::Result<()> {
     match f {
         Found::Here(_) => Ok(()),
         Found::NoMark => ask::complain(
             rt,
+            err,
             order::IMAGE,
             b"no plan: the dword at 00004000 is not the mark PLAN",
         ),
         Found::Count(_) => ask::complain(
             rt,
+            err,
             order::IMAGE,
             b"no plan: the records name no number of waypoints from 1 to 4096",
         ),
         Found::Outside(_) => ask::complain(
             rt,
+            err,
             order::IMAGE,
             b"no plan: the records name a place past the end of memory",
         ),
     }
 }
 
-fn slip(rt: &HostRuntime, n: u32, s: Slip) -> io::Result<()> {
+fn slip<R: Env, E: Write>(rt: &R, err: &mut E, n: u32, s: Slip) -> io::Result<()> {
     match s {
         Slip::Pass => ask::complain_of_line(
             rt,
+            err,
             order::EDITS,
             n,
             b"a line begins with a pass from 1 to 63",
         ),
         Slip::Waypoint => ask::complain_of_line(
             rt,
+            err,
             order::EDITS,
             n,
             b"after the pass stands jitter or a waypoint of the plan",
         ),
         Slip::Axis => ask::complain_of_line(
             rt,
+            err,
             order::EDITS,
             n,
             b"after the waypoint stands lat or lon",
         ),
         Slip::Delta => ask::complain_of_line(
             rt,
+            err,
             order::EDITS,
             n,
             b"the change is a decimal number up to 4294967295, with or without a sign",
         ),
-        Slip::Jitter => ask::complain_of_line(rt, order::EDITS, n, b"jitter is -1 or 1"),
+        Slip::Jitter => ask::complain_of_line(rt, err, order::EDITS, n, b"jitter is -1 or 1"),
         Slip::MoreAfter => ask::complain_of_line(
             rt,
+            err,
             order::EDITS,
             n,
             b"there is more after the change",
@@ -96,8 +107,8 @@ struct Played {
 }
 
 // What is seen of memory after a pass.
-fn seen(
-    rt: &HostRuntime,
+fn seen<W: Write>(
+    out: &mut W,
     mem: &[u8],
     copies: &[u8],
     k: Kept,
@@ -107,14 +118,7 @@ fn seen(
     let e = r.cpu;
     let slots = k.slots;
     let after = journal::number(micro32::audit(e, mem));
-    let tally = journal::frames(
-        &mut rt.stdout(),
-        Voice::Silent,
-        mem,
-        e.control,
-        copies,
-        &slots,
-    )?;
+    let tally = journal::frames(out, Voice::Silent, mem, e.control, copies, &slots)?;
     Ok(Played {
         passed: r,
         before,
@@ -124,8 +128,8 @@ fn seen(
 }
 
 // Plays one pass, with an audit before and after.
-fn play(
-    rt: &HostRuntime,
+fn play<W: Write>(
+    out: &mut W,
     mem: &mut [u8],
     ground: &mut [u8],
     copies: &[u8],
@@ -136,8 +140,8 @@ fn play(
 ) -> io::Result<Played> {
     let before = journal::number(micro32::audit(c, mem));
     let v = report::voice(o.plain);
-    let r = pass::play(&mut rt.stdout(), mem, ground, waypoints, c, o.budget, v)?;
-    seen(rt, mem, copies, k, before, r)
+    let r = pass::play(out, mem, ground, waypoints, c, o.budget, v)?;
+    seen(out, mem, copies, k, before, r)
 }
 
 // The rows with that of the pass closed.
@@ -150,8 +154,8 @@ fn closed(rows: Rows, pass: u32, y: Played) -> Rows {
 }
 
 // A pass that the guest did not end by itself: why, and whether the kernel's records were touched.
-fn stopped(
-    rt: &HostRuntime,
+fn stopped<W: Write>(
+    out: &mut W,
     mem: &[u8],
     rows: Rows,
     copies: &[u8],
@@ -160,15 +164,14 @@ fn stopped(
     pass: u32,
     plain: bool,
 ) -> io::Result<()> {
-    let mut out = rt.stdout();
     if !plain {
-        account::break_off(&mut out, rows, pass)?;
+        account::break_off(out, rows, pass)?;
         let c = r.cpu;
         let q = r.reply;
-        report::reply(&mut out, mem, c, q, plain)?;
+        report::reply(out, mem, c, q, plain)?;
     }
     let slots = k.slots;
-    report::records(&mut out, mem, copies, &slots, plain)
+    report::records(out, mem, copies, &slots, plain)
 }
 
 // Whether there is a next pass, the record that it begins with, and the rows so far.
@@ -180,8 +183,8 @@ struct Next {
 }
 
 // Tells what came of a pass.
-fn tell(
-    rt: &HostRuntime,
+fn tell<W: Write>(
+    out: &mut W,
     mem: &[u8],
     rows: Rows,
     copies: &[u8],
@@ -190,13 +193,12 @@ fn tell(
     pass: u32,
     plain: bool,
 ) -> io::Result<Next> {
-    let mut out = rt.stdout();
-    account::end(&mut out, rows, pass, plain)?;
+    account::end(out, rows, pass, plain)?;
     let c = r.cpu;
     let q = r.reply;
-    report::reply(&mut out, mem, c, q, plain)?;
+    report::reply(out, mem, c, q, plain)?;
     if !pass::is_end(q) {
-        stopped(rt, mem, rows, copies, k, r, pass, plain)?;
+        stopped(out, mem, rows, copies, k, r, pass, plain)?;
         return Ok(Next {
             goes_on: false,
             cpu: c,
@@ -211,8 +213,8 @@ fn tell(
 }
 
 // Plays one pass, and tells what came of it.
-fn play_and_tell(
-    rt: &HostRuntime,
+fn play_and_tell<W: Write>(
+    out: &mut W,
     mem: &mut [u8],
     ground: &mut [u8],
     rows: Rows,
@@ -223,16 +225,17 @@ fn play_and_tell(
     o: Order,
     pass: u32,
 ) -> io::Result<Next> {
-    account::begin(&mut rt.stdout(), rows, pass, o.plain)?;
-    let y = play(rt, mem, ground, copies, k, waypoints, c, o)?;
+    account::begin(out, rows, pass, o.plain)?;
+    let y = play(out, mem, ground, copies, k, waypoints, c, o)?;
     let r = y.passed;
     let with_pass = closed(rows, pass, y);
-    tell(rt, mem, with_pass, copies, k, r, pass, o.plain)
+    tell(out, mem, with_pass, copies, k, r, pass, o.plain)
 }
 
 // One pass with all that belongs to it: its edits, its row, and the copy of memory that it is compared with.
-fn turn(
-    rt: &HostRuntime,
+fn turn<W: Write, E: Write>(
+    out: &mut W,
+    err: &mut E,
     mem: &mut [u8],
     ground: &mut [u8],
     before: Rows,
@@ -245,7 +248,7 @@ fn turn(
 ) -> io::Result<Next> {
     let d = edit(mem, ground, s, p, pass);
     let rows = account::open(before, pass, d.edits, d.jitters, d.changed);
-    let k = run::remembered(rt, mem, copies)?;
+    let k = run::remembered(err, mem, copies)?;
     if !k.fits {
         return Ok(Next {
             goes_on: false,
@@ -253,12 +256,13 @@ fn turn(
             rows,
         });
     }
-    play_and_tell(rt, mem, ground, rows, copies, k, p.waypoints, cpu, o, pass)
+    play_and_tell(out, mem, ground, rows, copies, k, p.waypoints, cpu, o, pass)
 }
 
 // All passes, or up to the first that the guest does not end by itself.
-fn passes(
-    rt: &HostRuntime,
+fn passes<W: Write, E: Write>(
+    out: &mut W,
+    err: &mut E,
     mem: &mut [u8],
     ground: &mut [u8],
     copies: &mut [u8],
@@ -273,7 +277,7 @@ fn passes(
     let mut pass: u32 = 0;
     while pass < last {
         pass += 1;
-        let n = turn(rt, mem, ground, rows, copies, s, p, cpu, o, pass)?;
+        let n = turn(out, err, mem, ground, rows, copies, s, p, cpu, o, pass)?;
         if !n.goes_on {
             return Ok(());
         }
@@ -283,19 +287,13 @@ fn passes(
         rows = so_far;
     }
     let differing = waypoints::differing(mem, p, ground);
-    account::sum_up(
-        &mut rt.stdout(),
-        rows,
-        last,
-        p.waypoints,
-        differing,
-        o.plain,
-    )
+    account::sum_up(out, rows, last, p.waypoints, differing, o.plain)
 }
 
 // The passes that the edits name and one more, from a ground that has the plan as it was last sent.
-fn begin(
-    rt: &HostRuntime,
+fn begin<W: Write, E: Write>(
+    out: &mut W,
+    err: &mut E,
     mem: &mut [u8],
     copies: &mut [u8],
     s: &[u8],
@@ -306,12 +304,14 @@ fn begin(
 ) -> io::Result<()> {
     let mut ground = [0u8; 65536];
     waypoints::seed(mem, p, &mut ground);
-    passes(rt, mem, &mut ground, copies, s, p, c, o, last)
+    passes(out, err, mem, &mut ground, copies, s, p, c, o, last)
 }
 
 // The plan and the edits must both be good before anything is run.
-fn check(
-    rt: &HostRuntime,
+fn check<R: Env, W: Write, E: Write>(
+    rt: &R,
+    out: &mut W,
+    err: &mut E,
     mem: &mut [u8],
     copies: &mut [u8],
     s: &[u8],
@@ -320,20 +320,22 @@ fn check(
 ) -> io::Result<()> {
     let f = waypoints::find(mem);
     let Found::Here(p) = f else {
-        return no_plan(rt, f);
+        return no_plan(rt, err, f);
     };
     match given::check_edits(s, p.waypoints) {
         Listed::Good(last) => {
             let passes = std::num::wrapping_add_u32(last, 1);
-            begin(rt, mem, copies, s, p, c, o, passes)
+            begin(out, err, mem, copies, s, p, c, o, passes)
         }
-        Listed::Bad(n, l) => slip(rt, n, l),
+        Listed::Bad(n, l) => slip(rt, err, n, l),
     }
 }
 
 // The edits are the first n bytes of s.
-fn check_in(
-    rt: &HostRuntime,
+fn check_in<R: Env, W: Write, E: Write>(
+    rt: &R,
+    out: &mut W,
+    err: &mut E,
     mem: &mut [u8],
     copies: &mut [u8],
     s: &[u8],
@@ -342,21 +344,28 @@ fn check_in(
     o: Order,
 ) -> io::Result<()> {
     if n <= s.len() {
-        check(rt, mem, copies, &s[0..n], c, o)?;
+        check(rt, out, err, mem, copies, &s[0..n], c, o)?;
     }
     Ok(())
 }
 
-pub fn bill(rt: &HostRuntime, mem: &mut [u8], copies: &mut [u8], o: Order) -> io::Result<()> {
-    let r = files::prepare(rt, mem, o)?;
+pub fn bill<R: Env + Files + AllocGlobal, W: Write, E: Write>(
+    rt: &R,
+    out: &mut W,
+    err: &mut E,
+    mem: &mut [u8],
+    copies: &mut [u8],
+    o: Order,
+) -> io::Result<()> {
+    let r = files::prepare(rt, err, mem, o)?;
     if !r.good {
         return Ok(());
     }
     let mut s = [0u8; files::TEXT];
-    let n = files::read(rt, order::EDITS, &mut s)?;
+    let n = files::read(rt, err, order::EDITS, &mut s)?;
     if n == 0 {
         return Ok(());
     }
     let c = r.cpu;
-    check_in(rt, mem, copies, &s, n, c, o)
+    check_in(rt, out, err, mem, copies, &s, n, c, o)
 }

@@ -5,8 +5,10 @@ use crate::order::Order;
 use crate::{ask, order};
 use given::{Flaw, Parsed};
 use machine::Cpu;
+use std::env::Env;
 use std::io;
 use std::io::{Read, Write};
+use std::rt::Files;
 
 // The longest record or list of edits.
 pub const TEXT: usize = 16384;
@@ -56,10 +58,15 @@ fn read_whole<R: Read>(file: &mut R, b: &mut [u8]) -> io::Result<Whole>
 }
 
 // Reads the file that argument i names to the start of b. Answers its length; 0 where it cannot be used, once that is said.
-pub fn read(rt: &HostRuntime, i: usize, b: &mut [u8]) -> io::Result<usize>
+pub fn read<R: Env + Files + AllocGlobal, E: Write>(
+    rt: &R,
+    err: &mut E,
+    i: usize,
+    b: &mut [u8],
+) -> io::Result<usize>
     ensures { IfOk result (λ n. n ≤ length b.new) }
 {
-    let Some(mut file) = ask::open(rt, i)? else {
+    let Some(mut file) = ask::open(rt, err, i)? else {
         return Ok(0);
     };
     let w = match read_whole(&mut file, b) {
@@ -67,51 +74,59 @@ pub fn read(rt: &HostRuntime, i: usize, b: &mut [u8]) -> io::Result<usize>
         Err(_) => Whole { n: 0, more: false },
     };
     if w.n == 0 {
-        ask::complain(rt, i, b"the file is empty, or cannot be read")?;
+        ask::complain(rt, err, i, b"the file is empty, or cannot be read")?;
         return Ok(0);
     }
     if w.more {
-        ask::begin(rt, i)?;
-        let mut err = rt.stderr();
-        text::say(&mut err, b"the file does not fit; there is room for ")?;
+        ask::begin(rt, err, i)?;
+        text::say(err, b"the file does not fit; there is room for ")?;
         write!(err, "{}", w.n)?;
-        text::say(&mut err, b" bytes\n")?;
+        text::say(err, b" bytes\n")?;
         return Ok(0);
     }
     Ok(w.n)
 }
 
-fn load(rt: &HostRuntime, mem: &mut [u8], at: usize) -> io::Result<usize> {
+fn load<R: Env + Files + AllocGlobal, E: Write>(
+    rt: &R,
+    err: &mut E,
+    mem: &mut [u8],
+    at: usize,
+) -> io::Result<usize> {
     if at < mem.len() {
-        return read(rt, order::IMAGE, &mut mem[at..]);
+        return read(rt, err, order::IMAGE, &mut mem[at..]);
     }
     Ok(0)
 }
 
-fn flaw(rt: &HostRuntime, n: u32, f: Flaw) -> io::Result<()> {
+fn flaw<R: Env, E: Write>(rt: &R, err: &mut E, n: u32, f: Flaw) -> io::Result<()> {
     match f {
         Flaw::Nothing => Ok(()),
         Flaw::UnknownName => ask::complain_of_line(
             rt,
+            err,
             order::RECORD,
             n,
             b"no such name; there are EAX ECX EDX EBX ESP EBP ESI EDI EIP EFLAGS CR0 CR2 CR3 RING",
         ),
         Flaw::NamedTwice => ask::complain_of_line(
             rt,
+            err,
             order::RECORD,
             n,
             b"this name has a value already",
         ),
-        Flaw::NoValue => ask::complain_of_line(rt, order::RECORD, n, b"the name has no value"),
+        Flaw::NoValue => ask::complain_of_line(rt, err, order::RECORD, n, b"the name has no value"),
         Flaw::BadValue => ask::complain_of_line(
             rt,
+            err,
             order::RECORD,
             n,
             b"the value is not one to eight hexadecimal digits",
         ),
         Flaw::MoreAfter => ask::complain_of_line(
             rt,
+            err,
             order::RECORD,
             n,
             b"there is more after the value",
@@ -119,12 +134,11 @@ fn flaw(rt: &HostRuntime, n: u32, f: Flaw) -> io::Result<()> {
     }
 }
 
-fn unsound(rt: &HostRuntime, c: Cpu) -> io::Result<()> {
-    ask::begin(rt, order::RECORD)?;
-    let mut err = rt.stderr();
-    text::say(&mut err, b"the record is not sound: ")?;
-    journal::unsound(&mut err, c)?;
-    text::end(&mut err)
+fn unsound<R: Env, E: Write>(rt: &R, err: &mut E, c: Cpu) -> io::Result<()> {
+    ask::begin(rt, err, order::RECORD)?;
+    text::say(err, b"the record is not sound: ")?;
+    journal::unsound(err, c)?;
+    text::end(err)
 }
 
 fn readied(good: bool, cpu: Cpu, bytes: u32) -> Ready {
@@ -132,16 +146,22 @@ fn readied(good: bool, cpu: Cpu, bytes: u32) -> Ready {
 }
 
 // The record from its file, sound for this memory; bytes is handed on.
-fn record(rt: &HostRuntime, s: &[u8], size: usize, bytes: u32) -> io::Result<Ready> {
+fn record<R: Env, E: Write>(
+    rt: &R,
+    err: &mut E,
+    s: &[u8],
+    size: usize,
+    bytes: u32,
+) -> io::Result<Ready> {
     let r = given::record_of(s);
     let c = r.cpu;
     let p = r.parsed;
     if let Parsed::Bad(n, f) = p {
-        flaw(rt, n, f)?;
+        flaw(rt, err, n, f)?;
         return Ok(readied(false, c, bytes));
     }
     if !machine::sound(size, c) {
-        unsound(rt, c)?;
+        unsound(rt, err, c)?;
         return Ok(readied(false, c, bytes));
     }
     Ok(readied(true, c, bytes))
@@ -154,23 +174,35 @@ fn nothing() -> Ready {
 }
 
 // The record in the first n bytes of b.
-fn record_in(rt: &HostRuntime, b: &[u8], n: usize, size: usize, bytes: u32) -> io::Result<Ready> {
+fn record_in<R: Env, E: Write>(
+    rt: &R,
+    err: &mut E,
+    b: &[u8],
+    n: usize,
+    size: usize,
+    bytes: u32,
+) -> io::Result<Ready> {
     if n <= b.len() {
-        return record(rt, &b[0..n], size, bytes);
+        return record(rt, err, &b[0..n], size, bytes);
     }
     Ok(nothing())
 }
 
 // Puts the image in memory and reads the record.
-pub fn prepare(rt: &HostRuntime, mem: &mut [u8], o: Order) -> io::Result<Ready> {
-    let bytes = load(rt, mem, o.load as usize)?;
+pub fn prepare<R: Env + Files + AllocGlobal, E: Write>(
+    rt: &R,
+    err: &mut E,
+    mem: &mut [u8],
+    o: Order,
+) -> io::Result<Ready> {
+    let bytes = load(rt, err, mem, o.load as usize)?;
     if bytes == 0 {
         return Ok(nothing());
     }
     let mut b = [0u8; TEXT];
-    let n = read(rt, order::RECORD, &mut b)?;
+    let n = read(rt, err, order::RECORD, &mut b)?;
     if n == 0 {
         return Ok(nothing());
     }
-    record_in(rt, &b, n, mem.len(), (bytes % 4294967296) as u32)
+    record_in(rt, err, &b, n, mem.len(), (bytes % 4294967296) as u32)
 }

@@ -3,7 +3,9 @@ ghost use Rattle.std.specs.Prelude.{◌≤◌};
 
 use crate::ask;
 use given::Number;
+use std::env::Env;
 use std::io;
+use std::io::Write;
 
 #[derive(Clone, Copy)]
 pub struct Order {
@@ -38,46 +40,48 @@ fn is_size(n: u32) -> bool {
     (4096 <= n) & (n <= LARGEST) & (n % 4096 == 0)
 }
 
-fn refused(rt: &HostRuntime, i: usize, words: &[u8]) -> io::Result<Asked> {
-    ask::complain(rt, i, words)?;
+fn refused<R: Env, E: Write>(rt: &R, err: &mut E, i: usize, words: &[u8]) -> io::Result<Asked> {
+    ask::complain(rt, err, i, words)?;
     Ok(Asked::Refused)
 }
 
 // The number of an argument, and a sentence where it is none.
-fn number(rt: &HostRuntime, i: usize, name: &[u8]) -> io::Result<Number> {
+fn number<R: Env, E: Write>(rt: &R, err: &mut E, i: usize, name: &[u8]) -> io::Result<Number> {
     let n = ask::number(rt, i);
     if let Number::Value(_) = n {
         return Ok(n);
     }
-    ask::begin(rt, i)?;
-    let mut err = rt.stderr();
-    text::say(&mut err, name)?;
-    text::say(
-        &mut err,
-        b" is no number (decimal, or hexadecimal with 0x)\n",
-    )?;
+    ask::begin(rt, err, i)?;
+    text::say(err, name)?;
+    text::say(err, b" is no number (decimal, or hexadecimal with 0x)\n")?;
     Ok(n)
 }
 
-fn numbers(rt: &HostRuntime, plain: bool) -> io::Result<Asked> {
-    let Number::Value(load) = number(rt, LOAD, b"the load address")? else {
+fn numbers<R: Env, E: Write>(rt: &R, err: &mut E, plain: bool) -> io::Result<Asked> {
+    let Number::Value(load) = number(rt, err, LOAD, b"the load address")? else {
         return Ok(Asked::Refused);
     };
-    let Number::Value(budget) = number(rt, BUDGET, b"the budget")? else {
+    let Number::Value(budget) = number(rt, err, BUDGET, b"the budget")? else {
         return Ok(Asked::Refused);
     };
-    let Number::Value(size) = number(rt, SIZE, b"the size of memory")? else {
+    let Number::Value(size) = number(rt, err, SIZE, b"the size of memory")? else {
         return Ok(Asked::Refused);
     };
     if !is_size(size) {
         return refused(
             rt,
+            err,
             SIZE,
             b"the size of memory is a multiple of 4096, from 4096 to 4194304",
         );
     }
     if size <= load {
-        return refused(rt, LOAD, b"the load address lies past the end of memory");
+        return refused(
+            rt,
+            err,
+            LOAD,
+            b"the load address lies past the end of memory",
+        );
     }
     Ok(Asked::Order(Order {
         load,
@@ -95,23 +99,23 @@ fn words(bill: bool) -> usize
 }
 
 // Reads the arguments of `run`, or of `bill`, which has one more.
-pub fn read(rt: &HostRuntime, bill: bool) -> io::Result<Asked> {
+pub fn read<R: Env, E: Write>(rt: &R, err: &mut E, bill: bool) -> io::Result<Asked> {
     let n = ask::count(rt);
     let whole = words(bill);
     if n == whole {
-        return numbers(rt, false);
+        return numbers(rt, err, false);
     }
     if (n == whole + 1) & ask::is(rt, whole, b"--plain") {
-        return numbers(rt, true);
+        return numbers(rt, err, true);
     }
     if bill {
         ask::complain_at_all(
-            rt,
+            err,
             b"bill takes IMAGE LOAD RECORD BUDGET SIZE EDITS, and --plain if wanted",
         )?;
     } else {
         ask::complain_at_all(
-            rt,
+            err,
             b"run takes IMAGE LOAD RECORD BUDGET SIZE, and --plain if wanted",
         )?;
     }

@@ -15,6 +15,7 @@ use report::Tally;
 use std::fs::File;
 use std::io;
 use std::io::{BufReader, ErrorKind, Read, Write};
+use std::rt::Files;
 
 // Reads n bytes to b's start. False where there is no room for them, or the input ends before.
 fn fill<R: Read>(from: &mut R, b: &mut [u8], n: usize) -> io::Result<bool> {
@@ -151,8 +152,10 @@ fn table<W: Write, R: Read>(
 }
 
 // Opens a file of cases and counts them. Where it cannot be opened, that is said, and nothing is counted.
-fn file(
-    rt: &HostRuntime,
+fn file<R: Files + AllocGlobal, W: Write, E: Write>(
+    rt: &R,
+    out: &mut W,
+    err: &mut E,
     path: &str,
     directed: bool,
     before: Tally,
@@ -162,15 +165,13 @@ fn file(
     match File::open(rt, path) {
         Ok(cases) => {
             let mut from = BufReader::new(rt.alloc(), cases)?;
-            let mut out = rt.stdout();
-            table(&mut out, &mut from, directed, before, mem, want)
+            table(out, &mut from, directed, before, mem, want)
         }
         Err(e) => {
-            let mut err = rt.stderr();
-            text::say(&mut err, path.as_bytes())?;
-            text::say(&mut err, b": ")?;
-            text::reason(&mut err, rt.alloc(), e)?;
-            text::end(&mut err)?;
+            text::say(err, path.as_bytes())?;
+            text::say(err, b": ")?;
+            text::reason(err, rt.alloc(), e)?;
+            text::end(err)?;
             Ok(before)
         }
     }
@@ -180,7 +181,14 @@ fn file(
 fn main(rt: HostRuntime) -> io::Result<()> {
     let mut mem = [0u8; 32768];
     let mut want = [0u8; 32768];
-    let generated = file(&rt, "cases", false, report::nothing(), &mut mem, &mut want)?;
-    let all = file(&rt, "directed", true, generated, &mut mem, &mut want)?;
-    report::ended(&mut rt.stdout(), all)
+    let mut out = rt.stdout();
+    let mut err = rt.stderr();
+    let none = report::nothing();
+    let generated = file(
+        &rt, &mut out, &mut err, "cases", false, none, &mut mem, &mut want,
+    )?;
+    let all = file(
+        &rt, &mut out, &mut err, "directed", true, generated, &mut mem, &mut want,
+    )?;
+    report::ended(&mut out, all)
 }

@@ -3,4 +3,4 @@ use Rattle.std.proofs.Common.{◌-◌}
 use Rattle.gateway.proofs.bill.passes.Given as goal
 
 abbrev pub decreases-loop-pass : goal.decreases-loop-pass
-decreases-loop-pass l = l.last - l.pass
+decreases-loop-pass g l = l.last - l.pass
