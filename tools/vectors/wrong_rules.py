@@ -1,11 +1,10 @@
 #!/usr/bin/python3
-"""Changes one rule of the machine at a time in a copy, runs `rt try vectors` there, and says which wrong rules the cases tell apart.
+"""Changes one rule of the machine at a time in a copy, runs the program `vectors` there (`rt try`), and says which wrong rules the cases tell apart.
 
 wrong_rules.py FOLDER [FIRST]: FOLDER is made and takes the copy; FIRST is the number of the rule to begin with. It first checks that each
 rule stands exactly once in the source, and stops where one does not."""
 import os
 import shutil
-import signal
 import subprocess
 import sys
 
@@ -167,21 +166,19 @@ def unplaced():
 def copy(work):
     os.makedirs(work)
     shutil.copy(os.path.join(TOP, "crates.txt"), work)
-    shutil.copytree(os.path.join(TOP, "crates"), os.path.join(work, "crates"))
+    shutil.copytree(os.path.join(TOP, "crates"), os.path.join(work, "crates"), ignore=shutil.ignore_patterns("out"))
 
 
 def verdict(work):
-    """What the optimised run says. The run before it may lack the time, and the one after it takes long, so it is stopped."""
-    p = subprocess.Popen(["rt", "try", "vectors"], cwd=work, stdout=subprocess.PIPE, stderr=subprocess.STDOUT, text=True, start_new_session=True)
-    said = "does not run"
-    for line in p.stdout:
-        if "the native program at -O3" in line:
-            said = "NOT TOLD APART" if line.startswith("ok:") else "told apart" if "did not write what is expected" in line else "does not end"
-            os.killpg(p.pid, signal.SIGTERM)
-            break
-    p.stdout.close()
-    p.wait()
-    return said
+    """What the cases say of the machine as it stands in this copy. rt runs the program with no proof, its own lines beside what the program writes."""
+    vectors = os.path.join(work, "crates", "vectors")
+    data = [word for name in ("cases", "directed") for word in ("--data", f"{name}=data/{name}")]
+    p = subprocess.run(["rt", "try", *data], cwd=vectors, stdout=subprocess.PIPE, stderr=subprocess.STDOUT, text=True)
+    with open(os.path.join(vectors, "stdout")) as f:
+        wanted = f.read()
+    if p.stdout.startswith(wanted):
+        return "NOT TOLD APART"
+    return "told apart" if "agreed" in p.stdout and "ended" in p.stdout else "does not end"
 
 
 def main():

@@ -60,7 +60,7 @@ fn file_of<R: Files>(rt: &R, name: &[u8]) -> io::Result<R::File> {
 }
 
 // Opens the file that argument i names, and says why where it cannot.
-pub fn open<R: Env + Files + AllocGlobal, E: Write>(
+pub fn open<R: Env + Files, E: Write>(
     rt: &R,
     err: &mut E,
     i: usize,
@@ -73,7 +73,7 @@ pub fn open<R: Env + Files + AllocGlobal, E: Write>(
             text::say(err, b"gateway: ")?;
             text::say(err, &b[..n])?;
             text::say(err, b": ")?;
-            text::reason(err, rt.alloc(), e)?;
+            text::reason(err, e)?;
             text::end(err)?;
             Ok(None)
         }

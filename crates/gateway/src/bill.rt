@@ -349,7 +349,7 @@ fn check_in<R: Env, W: Write, E: Write>(
     Ok(())
 }
 
-pub fn bill<R: Env + Files + AllocGlobal, W: Write, E: Write>(
+pub fn bill<R: Env + Files, W: Write, E: Write>(
     rt: &R,
     out: &mut W,
     err: &mut E,

@@ -58,7 +58,7 @@ fn read_whole<R: Read>(file: &mut R, b: &mut [u8]) -> io::Result<Whole>
 }
 
 // Reads the file that argument i names to the start of b. Answers its length; 0 where it cannot be used, once that is said.
-pub fn read<R: Env + Files + AllocGlobal, E: Write>(
+pub fn read<R: Env + Files, E: Write>(
     rt: &R,
     err: &mut E,
     i: usize,
@@ -87,7 +87,7 @@ pub fn read<R: Env + Files + AllocGlobal, E: Write>(
     Ok(w.n)
 }
 
-fn load<R: Env + Files + AllocGlobal, E: Write>(
+fn load<R: Env + Files, E: Write>(
     rt: &R,
     err: &mut E,
     mem: &mut [u8],
@@ -189,7 +189,7 @@ fn record_in<R: Env, E: Write>(
 }
 
 // Puts the image in memory and reads the record.
-pub fn prepare<R: Env + Files + AllocGlobal, E: Write>(
+pub fn prepare<R: Env + Files, E: Write>(
     rt: &R,
     err: &mut E,
     mem: &mut [u8],

@@ -27,7 +27,7 @@ fn help<W: Write>(out: &mut W) -> io::Result<()> {
 }
 
 // Reads the rest of the order, and carries it out.
-fn command<R: Env + Files + AllocGlobal, W: Write, E: Write>(
+fn command<R: Env + Files, W: Write, E: Write>(
     rt: &R,
     out: &mut W,
     err: &mut E,
@@ -51,7 +51,7 @@ fn command<R: Env + Files + AllocGlobal, W: Write, E: Write>(
 }
 
 // The command that the first argument names.
-fn obey<R: Env + Files + AllocGlobal, W: Write, E: Write>(
+fn obey<R: Env + Files, W: Write, E: Write>(
     rt: &R,
     out: &mut W,
     err: &mut E,
@@ -68,14 +68,13 @@ fn obey<R: Env + Files + AllocGlobal, W: Write, E: Write>(
     }
 }
 
+// The command, over memory that main lends.
+fn begin(rt: &HostRuntime, mem: &mut [u8; LARGEST], copies: &mut [u8; COPIES]) -> io::Result<()> {
+    obey(rt, &mut rt.stdout(), &mut rt.stderr(), mem, copies)
+}
+
 fn main(rt: HostRuntime) -> io::Result<()> {
-    let mut mem = vec![in rt.alloc(); 0u8; LARGEST]?;
-    let mut copies = vec![in rt.alloc(); 0u8; COPIES]?;
-    obey(
-        &rt,
-        &mut rt.stdout(),
-        &mut rt.stderr(),
-        &mut mem,
-        &mut copies,
-    )
+    let mut mem = [0u8; LARGEST];
+    let mut copies = [0u8; COPIES];
+    begin(&rt, &mut mem, &mut copies)
 }

@@ -56,7 +56,7 @@ fn one_pass<W: Write>(
 }
 
 // Runs the guest for one pass. Nothing is written before all that was given is found good.
-pub fn run<R: Env + Files + AllocGlobal, W: Write, E: Write>(
+pub fn run<R: Env + Files, W: Write, E: Write>(
     rt: &R,
     out: &mut W,
     err: &mut E,

@@ -5,7 +5,7 @@
 ghost use Rattle.std.specs.Prelude.{◌≤◌, ◌++◌, ◌==◌, if◌then◌else◌, [], OnOk, codes, decimal, replicate, take};
 ghost use Rattle.std.specs.Io.KnownBytes.{Appends};
 
-use std::alloc::Global;
+use arrayvec::ArrayVec;
 use std::io;
 use std::io::Write;
 
@@ -146,15 +146,17 @@ pub fn word_line<W: Write>(out: &mut W, key: &[u8], word: &[u8]) -> io::Result<(
     end(out)
 }
 
-// What the system says of an error, without the error's number.
-pub fn reason<W: Write>(out: &mut W, alloc: Global, e: io::Error) -> io::Result<()> {
-    let words = e.to_string(alloc)?;
-    let Some(code) = e.raw_os_error() else {
-        return say(out, words.as_bytes());
-    };
-    let number = format!(in alloc; " (os error {code})")?;
-    match words.as_str().strip_suffix(number.as_str()) {
-        Some(only) => say(out, only.as_bytes()),
-        None => say(out, words.as_bytes()),
+// What the system says of an error, without the error's number, and at most 128 bytes of it.
+pub fn reason<W: Write>(out: &mut W, e: io::Error) -> io::Result<()> {
+    let mut words: ArrayVec<u8, 128> = ArrayVec::new();
+    match write!(words, "{e}") {
+        Ok(()) | Err(_) => {}
     }
+    let all = words.as_slice();
+    for i in 0..all.len() {
+        if all[i..].starts_with(b" (os error ") {
+            return say(out, &all[..i]);
+        }
+    }
+    say(out, all)
 }

@@ -14,7 +14,7 @@ use memory::Memory;
 use report::Tally;
 use std::fs::File;
 use std::io;
-use std::io::{BufReader, ErrorKind, Read, Write};
+use std::io::{ErrorKind, Read, Write};
 use std::rt::Files;
 
 // Reads n bytes to b's start. False where there is no room for them, or the input ends before.
@@ -152,7 +152,7 @@ fn table<W: Write, R: Read>(
 }
 
 // Opens a file of cases and counts them. Where it cannot be opened, that is said, and nothing is counted.
-fn file<R: Files + AllocGlobal, W: Write, E: Write>(
+fn file<R: Files, W: Write, E: Write>(
     rt: &R,
     out: &mut W,
     err: &mut E,
@@ -163,14 +163,11 @@ fn file<R: Files + AllocGlobal, W: Write, E: Write>(
     want: &mut Memory,
 ) -> io::Result<Tally> {
     match File::open(rt, path) {
-        Ok(cases) => {
-            let mut from = BufReader::new(rt.alloc(), cases)?;
-            table(out, &mut from, directed, before, mem, want)
-        }
+        Ok(mut cases) => table(out, &mut cases, directed, before, mem, want),
         Err(e) => {
             text::say(err, path.as_bytes())?;
             text::say(err, b": ")?;
-            text::reason(err, rt.alloc(), e)?;
+            text::reason(err, e)?;
             text::end(err)?;
             Ok(before)
         }
