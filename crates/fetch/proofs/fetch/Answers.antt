@@ -6,4 +6,4 @@ pub returns-then-n-ge15 : goal.returns-then-n-ge15
 returns-then-n-ge15 c = fetch_full _ _ _ _ c.if-n-ge15.true
 
 pub returns-in-Near : goal.returns-in-Near
-returns-in-Near c = fetch_near _ _ c.args.s _ _ _ c.requires (search rules) (omega arith) c.if-eip-n-lt4096.true c.in-Near.is (simp (c.byte_at.ensures.0, c.index.ensures.0)) c.byte_at.ensures.1
+returns-in-Near c = fetch_near _ _ c.args.s _ _ _ c.requires (search rules) (omega arith) (omega arith) c.in-Near.is (simp (c.byte_at.ensures.0, c.index.ensures.0)) c.byte_at.ensures.1
