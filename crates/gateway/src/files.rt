@@ -21,17 +21,17 @@ pub struct Ready {
     pub bytes: u32,
 }
 
-// Reads until b is full or the file ends, and answers how many bytes stand at b's start.
+// Reads until b is full or the file ends, and answers how many bytes stand at b's start. A file of which nothing can be read counts as empty.
 fn fill<R: Read>(file: &mut R, b: &mut [u8]) -> io::Result<usize>
     ensures { IfOk result (λ n. n ≤ length b.new) }
 {
     let mut done: usize = 0;
     while done < b.len() {
-        let n = file.read(&mut b[done..])?;
-        if n == 0 {
-            return Ok(done);
+        match file.read(&mut b[done..]) {
+            Ok(0) => return Ok(done),
+            Ok(n) => done += n,
+            Err(e) => return if done == 0 { Ok(0) } else { Err(e) },
         }
-        done += n;
     }
     Ok(done)
 }
@@ -69,10 +69,7 @@ pub fn read<R: Env + Files, E: Write>(
     let Some(mut file) = ask::open(rt, err, i)? else {
         return Ok(0);
     };
-    let w = match read_whole(&mut file, b) {
-        Ok(w) => w,
-        Err(_) => Whole { n: 0, more: false },
-    };
+    let w = read_whole(&mut file, b)?;
     if w.n == 0 {
         ask::complain(rt, err, i, b"the file is empty, or cannot be read")?;
         return Ok(0);
