@@ -5,12 +5,10 @@ use mathlib.Core.Path.{◌≡◌, sym, ap, ◌∙◌}
 use mathlib.Core.Bool.{true, false}
 use native.Mathlib.Omega.{arith}
 use Rattle.machine.specs.declared.Cpu.{Cpu}
-use Rattle.machine.specs.declared.Reply.TheVariants.{Done, BadRecord, Spent}
+use Rattle.machine.specs.declared.Reply.TheVariants.{BadRecord, Spent}
 use Rattle.machine.specs.Record.{Mem, sound}
-use Rattle.machine.specs.Replies.{is_done}
-use Rattle.machine.specs.Run.{Outcome, End, still, step, steps, run}
-use Rattle.isolation.specs.Kept.{lone}
-use Rattle.isolation.proofs.Kept.{lone_done, lone_off, run_sound, run_lone}
+use Rattle.machine.specs.Run.{Outcome, End, step, steps, run}
+use Rattle.isolation.proofs.Kept.{run_sound}
 use Rattle.isolation.proofs.Ring3.{step_sound}
 use Rattle.phases.specs.Step.{micro32}
 use Rattle.hops.specs.Hops.{after}
@@ -55,15 +53,3 @@ stepped_sound m c s good e = rw (← e) at (step_sound micro32 m c good)
 -- the count stays below the budget
 pub few_left : (n k b : ℕ) → n ≤ b → k ≤ b - n → n + k ≤ b
 few_left n k b h f = omega arith
-
--- ---- a run of budget 1
-
-module _ (m : Mem) (c : Cpu) (s : Outcome) (e : s ≡ step micro32 m c) where
-  alone : run micro32 1 m c ≡ lone s
-  alone = run_lone micro32 m c ∙ ap lone (sym e)
-
-  pub once_done : s.reply ≡ Done → record { count = 1; last = still Spent s.mem s.cpu } ≡ run micro32 1 m c
-  once_done d = sym (alone ∙ lone_done s (ap is_done d))
-
-  pub once_off : is_done s.reply ≡ false → record { count = 0; last = s } ≡ run micro32 1 m c
-  once_off d = sym (alone ∙ lone_off s d)

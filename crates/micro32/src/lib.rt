@@ -49,29 +49,6 @@ pub fn step(c: Cpu, mem: &mut [u8]) -> Stepped
     phases::advance(c, mem, &t)
 }
 
-// A run of budget 1 is a complete step. It begins no block, so there is no table of them to clear.
-fn run_once(c: Cpu, mem: &mut [u8], t: &[u8; 512]) -> Ran
-    requires { Classed t.now }
-    ensures { run_telling result.count result.reply result.cpu mem.new ≡ run_told (run micro32 1 mem.old c) }
-{
-    let s = phases::advance(c, mem, t);
-    let k = s.reply;
-    let d = s.cpu;
-    let Reply::Done = k else {
-        let count: u32 = 0;
-        return Ran {
-            count,
-            reply: k,
-            cpu: d,
-        };
-    };
-    Ran {
-        count: 1,
-        reply: Reply::Spent,
-        cpu: d,
-    }
-}
-
 // Steps until the budget is used or a reply isn't Done: quick ones as long as there are, then a complete one. The blocks that were read are kept in g.
 fn run_on(c: Cpu, mem: &mut [u8], t: &[u8; 512], g: &mut [u64; 4096], budget: u32) -> Ran
     requires { (Classed t.now) × ((Known g.old) × (sound mem.old c ≡ true)) }
@@ -123,9 +100,6 @@ pub fn run(c: Cpu, mem: &mut [u8], budget: u32) -> Ran
         };
     }
     let t = encoding::classes();
-    if budget == 1 {
-        return run_once(c, mem, &t);
-    }
     let mut g: [u64; 4096] = [0; 4096];
     run_on(c, mem, &t, &mut g, budget)
 }

@@ -6,8 +6,7 @@ use Rattle.machine.proofs.Done.{not_done}
 use Rattle.hops.proofs.Onward.{went_on, ended_at}
 use Rattle.phases.proofs.Steps.{sound_size}
 use Rattle.micro32.proofs.Runs.{begun, spent, rushed, stepped_sound, few_left}
-use Prim.Native.Nat.{◌-◌, ◌<◌}
-use mathlib.Core.Bool.{true}
+use Prim.Native.Nat.{◌<◌}
 use Rattle.micro32.proofs.run_on.Goals as goal
 
 pub loop-n-init : goal.loop-n-init
