@@ -12,7 +12,7 @@ use Rattle.machine.specs.Run.{End, step, run}
 use Rattle.isolation.specs.Kept.{Kept, Alone, lone}
 use Rattle.isolation.specs.Guarded.{Guarded}
 use Rattle.isolation.specs.Answers.{Lowest, SafeTables}
-use Rattle.isolation.proofs.Kept.{step_still, run_kept, kept_alone, run_ends, run_lone}
+use Rattle.isolation.proofs.Kept.{step_still, run_kept, run_alone, kept_alone, run_ends, run_lone}
 use Rattle.isolation.proofs.Ring3.{run_guarded}
 use Rattle.isolation.proofs.Audited.{audit_safe, audit_outside, audit_exposed, audit_bad}
 use Rattle.phases.specs.Step.{micro32}
@@ -29,6 +29,10 @@ step_keeps m r = step_still micro32 m r
 -- a run keeps its Done steps and nothing else
 pub run_keeps : (budget : ℕ) (m : Mem) (r : Cpu) → Kept micro32 budget m r (run micro32 budget m r)
 run_keeps budget m r = run_kept micro32 budget m r
+
+-- it ends no sooner and with no other reply than it must
+pub run_stands_alone : (budget : ℕ) (m : Mem) (r : Cpu) → Alone micro32 budget m r (run micro32 budget m r)
+run_stands_alone budget m r = run_alone micro32 budget m r
 
 -- and no other end has this, an idle run's neither
 pub only_run_keeps : (budget : ℕ) (m : Mem) (r : Cpu) (e : End) → Alone micro32 budget m r e → e ≡ run micro32 budget m r
