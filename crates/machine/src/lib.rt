@@ -3,7 +3,7 @@
 
 ghost use Rattle.std.specs.Prelude.{◌≡◌, ℕ, ◌+◌, ◌*◌, ◌/◌, ◌%◌, ◌<◌, ◌≤◌, length, get_or, set};
 ghost use Rattle.machine.specs.Record.{digit, register, with_register, replaced, byte_register, with_byte, read_at, write_at, flags_in, pack, sound_at, core_of, with_core};
-ghost use Rattle.machine.specs.Replies.{is_done};
+ghost use Rattle.machine.specs.Replies.{is_done, numbered};
 
 use alu::Status;
 
@@ -21,6 +21,46 @@ pub enum Reply {
     Safe,
     TableOutside(u32),
     Exposed(u32),
+}
+
+impl Reply {
+    #[tactic(auto, unfolding(crate::specs::Replies::numbered))]
+    pub fn number(self) -> u32
+        ensures { result ≡ (numbered self).number }
+    {
+        match self {
+            Reply::Done => 0,
+            Reply::Fault(_, _, _) => 1,
+            Reply::Trap(_, _) => 2,
+            Reply::Halt(_) => 3,
+            Reply::BadRecord => 4,
+            Reply::NoMemory(_) => 5,
+            Reply::NotBuilt(_) => 6,
+            Reply::Spent => 7,
+            Reply::Safe => 8,
+            Reply::TableOutside(_) => 9,
+            Reply::Exposed(_) => 10,
+        }
+    }
+
+    // The values that it carries, and zeros after them.
+    #[tactic(auto, unfolding(crate::specs::Replies::numbered))]
+    pub fn values(self) -> [u32; 3]
+        ensures first { get_or result 0 0 ≡ get_or (numbered self).carries 0 0 }
+        ensures second { get_or result 1 0 ≡ get_or (numbered self).carries 1 0 }
+        ensures third { get_or result 2 0 ≡ get_or (numbered self).carries 2 0 }
+    {
+        match self {
+            Reply::Fault(vector, code, address) => [vector, code, address],
+            Reply::Trap(vector, next) => [vector, next, 0],
+            Reply::Halt(next) => [next, 0, 0],
+            Reply::NoMemory(physical) => [physical, 0, 0],
+            Reply::NotBuilt(eip) => [eip, 0, 0],
+            Reply::TableOutside(index) => [index, 0, 0],
+            Reply::Exposed(page) => [page, 0, 0],
+            Reply::Done | Reply::BadRecord | Reply::Spent | Reply::Safe => [0, 0, 0],
+        }
+    }
 }
 
 // EAX ECX EDX EBX ESP EBP ESI EDI.

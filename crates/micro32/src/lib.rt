@@ -115,84 +115,13 @@ pub fn audit(c: Cpu, mem: &[u8]) -> Reply
 fn answer_of(q: Reply, count: u32) -> Answer
     ensures { result ≡ answer_of q count }
 {
-    match q {
-        Reply::Done => Answer {
-            number: 0,
-            a: 0,
-            b: 0,
-            c: 0,
-            count,
-        },
-        Reply::Fault(vector, code, address) => Answer {
-            number: 1,
-            a: vector,
-            b: code,
-            c: address,
-            count,
-        },
-        Reply::Trap(vector, next) => Answer {
-            number: 2,
-            a: vector,
-            b: next,
-            c: 0,
-            count,
-        },
-        Reply::Halt(next) => Answer {
-            number: 3,
-            a: next,
-            b: 0,
-            c: 0,
-            count,
-        },
-        Reply::BadRecord => Answer {
-            number: 4,
-            a: 0,
-            b: 0,
-            c: 0,
-            count,
-        },
-        Reply::NoMemory(physical) => Answer {
-            number: 5,
-            a: physical,
-            b: 0,
-            c: 0,
-            count,
-        },
-        Reply::NotBuilt(eip) => Answer {
-            number: 6,
-            a: eip,
-            b: 0,
-            c: 0,
-            count,
-        },
-        Reply::Spent => Answer {
-            number: 7,
-            a: 0,
-            b: 0,
-            c: 0,
-            count,
-        },
-        Reply::Safe => Answer {
-            number: 8,
-            a: 0,
-            b: 0,
-            c: 0,
-            count,
-        },
-        Reply::TableOutside(index) => Answer {
-            number: 9,
-            a: index,
-            b: 0,
-            c: 0,
-            count,
-        },
-        Reply::Exposed(page) => Answer {
-            number: 10,
-            a: page,
-            b: 0,
-            c: 0,
-            count,
-        },
+    let [a, b, c] = q.values();
+    Answer {
+        number: q.number(),
+        a,
+        b,
+        c,
+        count,
     }
 }
 
