@@ -152,10 +152,12 @@ impl Registers {
     }
 
     // The file with one byte register written: the other 24 bits are kept.
-    pub fn with_byte(self, n: u32, x: u32) -> Registers
+    pub fn with_byte(mut self, n: u32, x: u32) -> Registers
         ensures { result ≡ with_byte self n x }
     {
-        self.with(n % 4, replaced(self.read(n % 4), n, x))
+        let x = replaced(self.read(n % 4), n, x);
+        cells::put(&mut self.e, (n % 4) as usize, x);
+        self
     }
 
     // A register at a width.
