@@ -167,18 +167,26 @@ def point_5(commit):
 
 
 def point_6(commit):
-    """A buffer with a length or a place beside it, parallel arrays, lists searched by hand: by what they are called."""
+    """A buffer with a length beside it, arrays that belong together, a list searched by hand: what is asked one name after another."""
     for f in all_functions(commit):
-        if re.search(r"\[(?:u8|u32|u64)(?:; \w+)?\]", f.params) and re.search(r"\b(n|size|from|at|i|j): (?:usize|u32)", f.params):
-            yield f"{f}: a buffer and a place or a length"
-        elif re.search(r"\bslots\b|\bseen\b", f.params):
-            yield f"{f}: parallel arrays"
+        if re.search(r"\[(?:u8|u32|u64)(?:; \w+)?\]", f.params) and re.search(r"\b(n|size|upto): (?:usize|u32)", f.params) \
+                and re.search(r"\.\.(n|size)\b|\b(n|size) <= \w+\.len\(\)|len\(\) < (n|size)\b|< (n|size) \{", f.body):
+            yield f"{f}: a buffer and a length"
+        elif re.search(r"\b(slots|seen): &", f.params):
+            yield f"{f}: arrays that belong together"
+        elif len(re.findall(r"\bis\(\w+, \w+, b\"", f.body)) >= 3 or len(re.findall(r"=> say\(\w+, b\"", f.body)) >= 8:
+            yield f"{f}: a list by hand"
+    for p in paths(commit, r"/src/.*\.rt$"):
+        text = code(show(commit, p))
+        for m in re.finditer(r"\bstruct (\w+)(?:<[^>]*>)? \{(.*?)\n\}", text, re.S):
+            if re.search(r"\bn: usize", m.group(2)) or re.search(r"\bn: \[u32", m.group(2)) or re.search(r"\bslots: \[u32", m.group(2)):
+                yield f"{p}: struct {m.group(1)}: a length or a row's numbers beside"
 
 
 def point_7(commit):
     """A parameter that picks what is done."""
     for f in all_functions(commit):
-        m = re.search(r"\b(plain|bill|directed|keep|hex|long|signed|landed|over|call|column|down|longitude|says|asked|changed): (bool|u32)", f.params)
+        m = re.search(r"\b(plain|bill|directed|keep|hex|over|call|says|asked): (bool|u32)", f.params)
         if m:
             yield f"{f}: {m.group(0)}"
 
