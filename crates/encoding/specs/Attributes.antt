@@ -1,7 +1,8 @@
 -- What an opcode b of class c says of its instruction, with the ModRM byte m and its reg field (document 01, "Encodings built").
 -- Assumes nothing.
 use Rattle.std.specs.Prelude.{ℕ, ◌/◌, ◌%◌, Bool, cond, not, ◌&&◌, ◌||◌, ltb, leb, eqb}
-use Rattle.encoding.specs.Families.{combine_to, combine_from, combine_immediate, unary, shift_by, shift_by_cl, accumulate, multiply_by, multiply_into, extend, address_of, swap, push, push_number, pop, set_on, jump_on, jump, jump_to, call, call_to, return as return', loop, flag, transfer, convert, trap, halt}
+use Rattle.encoding.specs.declared.Family.{Family}
+use Rattle.encoding.specs.declared.Family.TheVariants.{CombineTo, CombineFrom, CombineImmediate, Unary, ShiftBy, ShiftByCl, Accumulate, MultiplyBy, MultiplyInto, Extend, AddressOf, Swap, Push, PushNumber, Pop, SetOn, JumpOn, Jump, JumpTo, Call, CallTo, Return, Loop, Flag, Transfer, Convert, Trap, Halt}
 use Rattle.encoding.specs.Encodings.{arithmetic_to, arithmetic_from, arithmetic_accumulator, arithmetic_group, test_to, test_accumulator, unary_group, move_to, move_from, move_from_offset, move_to_offset, move_register, move_group, extend_zero, extend_sign, load_address, exchange, exchange_accumulator, increment_register, decrement_register, byte_group, dword_group, push_register, push_immediate, pop_register, pop_group, shift_immediate, shift_one, shift_cl, multiply_immediate, multiply_register, widen, jump_if, jump_if_near, set_if, jump_by, call_by, return_plain, return_popping, loop_by, flag_operation, flag_transfer, breakpoint, interrupt}
 
 abbrev pub reg_field : ℕ → ℕ
@@ -104,47 +105,47 @@ is_single c reg =
     (eqb c unary_group && ltb reg 4) || eqb c increment_register || eqb c decrement_register || ((eqb c byte_group || eqb c dword_group) && ltb reg 2)
 
 -- FF /2 CALL, /4 JMP, /6 PUSH
-abbrev pub group_family : ℕ → ℕ
-group_family reg = cond (eqb reg 2) call_to (cond (eqb reg 4) jump_to push)
+abbrev pub group_family : ℕ → Family
+group_family reg = cond (eqb reg 2) CallTo (cond (eqb reg 4) JumpTo Push)
 
 -- each other class is one family
-unfoldable pub other_family : ℕ → ℕ
+unfoldable pub other_family : ℕ → Family
 other_family c =
-    cond (eqb c loop_by) loop
-    (cond (eqb c flag_operation) flag
-    (cond (eqb c flag_transfer) transfer
-    (cond (eqb c widen) convert
-    (cond (eqb c breakpoint || eqb c interrupt) trap halt))))
+    cond (eqb c loop_by) Loop
+    (cond (eqb c flag_operation) Flag
+    (cond (eqb c flag_transfer) Transfer
+    (cond (eqb c widen) Convert
+    (cond (eqb c breakpoint || eqb c interrupt) Trap Halt))))
 
-unfoldable pub flow_family : ℕ → ℕ
+unfoldable pub flow_family : ℕ → Family
 flow_family c =
-    cond (eqb c set_if) set_on
-    (cond (eqb c jump_if || eqb c jump_if_near) jump_on
-    (cond (eqb c jump_by) jump
-    (cond (eqb c call_by) call
-    (cond (eqb c return_plain || eqb c return_popping) return' (other_family c)))))
+    cond (eqb c set_if) SetOn
+    (cond (eqb c jump_if || eqb c jump_if_near) JumpOn
+    (cond (eqb c jump_by) Jump
+    (cond (eqb c call_by) Call
+    (cond (eqb c return_plain || eqb c return_popping) Return (other_family c)))))
 
-unfoldable pub move_family : ℕ → ℕ
+unfoldable pub move_family : ℕ → Family
 move_family c =
-    cond (eqb c extend_zero || eqb c extend_sign) extend
-    (cond (eqb c load_address) address_of
-    (cond (eqb c exchange || eqb c exchange_accumulator) swap
-    (cond (eqb c push_register) push
-    (cond (eqb c push_immediate) push_number
-    (cond (eqb c pop_register || eqb c pop_group) pop (flow_family c))))))
+    cond (eqb c extend_zero || eqb c extend_sign) Extend
+    (cond (eqb c load_address) AddressOf
+    (cond (eqb c exchange || eqb c exchange_accumulator) Swap
+    (cond (eqb c push_register) Push
+    (cond (eqb c push_immediate) PushNumber
+    (cond (eqb c pop_register || eqb c pop_group) Pop (flow_family c))))))
 
-unfoldable pub arithmetic_family : ℕ → ℕ
+unfoldable pub arithmetic_family : ℕ → Family
 arithmetic_family c =
-    cond (eqb c unary_group) accumulate
-    (cond (eqb c shift_immediate || eqb c shift_one) shift_by
-    (cond (eqb c shift_cl) shift_by_cl
-    (cond (eqb c multiply_immediate) multiply_by
-    (cond (eqb c multiply_register) multiply_into (move_family c)))))
+    cond (eqb c unary_group) Accumulate
+    (cond (eqb c shift_immediate || eqb c shift_one) ShiftBy
+    (cond (eqb c shift_cl) ShiftByCl
+    (cond (eqb c multiply_immediate) MultiplyBy
+    (cond (eqb c multiply_register) MultiplyInto (move_family c)))))
 
-unfoldable pub family_of : ℕ → ℕ → ℕ
+unfoldable pub family_of : ℕ → ℕ → Family
 family_of c reg =
-    cond (is_to c) combine_to (cond (is_from c) combine_from (cond (is_combined c reg) combine_immediate
-    (cond (is_single c reg) unary (cond (eqb c dword_group) (group_family reg) (arithmetic_family c)))))
+    cond (is_to c) CombineTo (cond (is_from c) CombineFrom (cond (is_combined c reg) CombineImmediate
+    (cond (is_single c reg) Unary (cond (eqb c dword_group) (group_family reg) (arithmetic_family c)))))
 
 -- other families: shifts, and F6 and F7 from /4 on, by the reg field; MOVZX 0, MOVSX 1; else the opcode's low four bits
 unfoldable pub operation_of : ℕ → ℕ → ℕ → ℕ

@@ -1,115 +1,35 @@
--- What an instruction does, once decoded: its family. `operand` is the r/m operand, `register` the other one.
+-- Each family by a number, for lists that hold an instruction's fields. The enum, in src/, says what each family does.
 -- Assumes nothing.
 use Rattle.std.specs.Prelude.{ℕ}
+use Rattle.encoding.specs.declared.Family.{Family}
+use Rattle.encoding.specs.declared.Family.TheVariants.{CombineTo, CombineFrom, CombineImmediate, Unary, ShiftBy, ShiftByCl, Accumulate, MultiplyBy, MultiplyInto, Extend, AddressOf, Swap, Push, PushNumber, Pop, SetOn, JumpOn, Jump, JumpTo, Call, CallTo, Return, Loop, Flag, Transfer, Convert, Trap, Halt}
 
--- an operation of two operands: on the operand by the register
-abbrev pub combine_to : ℕ
-combine_to = 1
-
--- on the register by the operand
-abbrev pub combine_from : ℕ
-combine_from = 2
-
--- on the operand by the immediate
-abbrev pub combine_immediate : ℕ
-combine_immediate = 3
-
--- INC DEC NOT NEG of the operand
-abbrev pub unary : ℕ
-unary = 4
-
--- the operand shifted by the immediate
-abbrev pub shift_by : ℕ
-shift_by = 5
-
--- by CL
-abbrev pub shift_by_cl : ℕ
-shift_by_cl = 6
-
--- MUL IMUL DIV IDIV of the accumulator by the operand
-abbrev pub accumulate : ℕ
-accumulate = 7
-
--- the register becomes operand times immediate
-abbrev pub multiply_by : ℕ
-multiply_by = 8
-
--- register times operand
-abbrev pub multiply_into : ℕ
-multiply_into = 9
-
--- the register becomes the byte operand, extended
-abbrev pub extend : ℕ
-extend = 10
-
--- the register becomes the operand's address
-abbrev pub address_of : ℕ
-address_of = 11
-
--- operand and register exchanged
-abbrev pub swap : ℕ
-swap = 12
-
--- the operand
-abbrev pub push : ℕ
-push = 13
-
--- the immediate
-abbrev pub push_number : ℕ
-push_number = 14
-
--- to the operand
-abbrev pub pop : ℕ
-pop = 15
-
--- the byte operand becomes 1 or 0 by a condition
-abbrev pub set_on : ℕ
-set_on = 16
-
--- a jump by the immediate, on a condition
-abbrev pub jump_on : ℕ
-jump_on = 17
-
--- by the immediate
-abbrev pub jump : ℕ
-jump = 18
-
--- to the operand
-abbrev pub jump_to : ℕ
-jump_to = 19
-
--- by the immediate
-abbrev pub call : ℕ
-call = 20
-
--- to the operand
-abbrev pub call_to : ℕ
-call_to = 21
-
--- and pop as many bytes as the immediate says
-abbrev pub return : ℕ
-return = 22
-
--- the LOOP forms and JECXZ
-abbrev pub loop : ℕ
-loop = 23
-
--- one flag changed
-abbrev pub flag : ℕ
-flag = 24
-
--- SAHF, LAHF
-abbrev pub transfer : ℕ
-transfer = 25
-
--- CWDE, CDQ
-abbrev pub convert : ℕ
-convert = 26
-
--- INT
-abbrev pub trap : ℕ
-trap = 27
-
--- HLT
-abbrev pub halt : ℕ
-halt = 28
+abbrev pub number_of : Family → ℕ
+number_of CombineTo = 1
+number_of CombineFrom = 2
+number_of CombineImmediate = 3
+number_of Unary = 4
+number_of ShiftBy = 5
+number_of ShiftByCl = 6
+number_of Accumulate = 7
+number_of MultiplyBy = 8
+number_of MultiplyInto = 9
+number_of Extend = 10
+number_of AddressOf = 11
+number_of Swap = 12
+number_of Push = 13
+number_of PushNumber = 14
+number_of Pop = 15
+number_of SetOn = 16
+number_of JumpOn = 17
+number_of Jump = 18
+number_of JumpTo = 19
+number_of Call = 20
+number_of CallTo = 21
+number_of Return = 22
+number_of Loop = 23
+number_of Flag = 24
+number_of Transfer = 25
+number_of Convert = 26
+number_of Trap = 27
+number_of Halt = 28

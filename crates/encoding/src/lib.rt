@@ -117,66 +117,70 @@ pub struct Operand {
     pub displacement: u32,
 }
 
-// What an instruction does, once decoded: its family (specs/Families).
-pub const COMBINE_TO: u32 = 1;
-
-pub const COMBINE_FROM: u32 = 2;
-
-pub const COMBINE_IMMEDIATE: u32 = 3;
-
-pub const UNARY: u32 = 4;
-
-pub const SHIFT_BY: u32 = 5;
-
-pub const SHIFT_BY_CL: u32 = 6;
-
-pub const ACCUMULATE: u32 = 7;
-
-pub const MULTIPLY_BY: u32 = 8;
-
-pub const MULTIPLY_INTO: u32 = 9;
-
-pub const EXTEND: u32 = 10;
-
-pub const ADDRESS_OF: u32 = 11;
-
-pub const SWAP: u32 = 12;
-
-pub const PUSH: u32 = 13;
-
-pub const PUSH_NUMBER: u32 = 14;
-
-pub const POP: u32 = 15;
-
-pub const SET_ON: u32 = 16;
-
-pub const JUMP_ON: u32 = 17;
-
-pub const JUMP: u32 = 18;
-
-pub const JUMP_TO: u32 = 19;
-
-pub const CALL: u32 = 20;
-
-pub const CALL_TO: u32 = 21;
-
-pub const RETURN: u32 = 22;
-
-pub const LOOP: u32 = 23;
-
-pub const FLAG: u32 = 24;
-
-pub const TRANSFER: u32 = 25;
-
-pub const CONVERT: u32 = 26;
-
-pub const TRAP: u32 = 27;
-
-pub const HALT: u32 = 28;
+// What an instruction does, once decoded: its family. `operand` is the r/m operand, `register` the other one.
+#[derive(Clone, Copy, PartialEq, Eq)]
+pub enum Family {
+    // two operands combined: on the operand by the register
+    CombineTo,
+    // on the register by the operand
+    CombineFrom,
+    // on the operand by the immediate
+    CombineImmediate,
+    // INC DEC NOT NEG of the operand
+    Unary,
+    // the operand shifted by the immediate
+    ShiftBy,
+    // the operand shifted by CL
+    ShiftByCl,
+    // MUL IMUL DIV IDIV of the accumulator by the operand
+    Accumulate,
+    // the register becomes operand times immediate
+    MultiplyBy,
+    // the register becomes register times operand
+    MultiplyInto,
+    // the register becomes the byte operand, extended
+    Extend,
+    // the register becomes the operand's address
+    AddressOf,
+    // operand and register exchanged
+    Swap,
+    // the operand pushed
+    Push,
+    // the immediate pushed
+    PushNumber,
+    // popped to the operand
+    Pop,
+    // the byte operand becomes 1 or 0 by a condition
+    SetOn,
+    // a jump by the immediate, on a condition
+    JumpOn,
+    // a jump by the immediate
+    Jump,
+    // a jump to the operand
+    JumpTo,
+    // a call by the immediate
+    Call,
+    // a call to the operand
+    CallTo,
+    // a return that pops as many bytes as the immediate says
+    Return,
+    // the LOOP forms and JECXZ
+    Loop,
+    // one flag changed
+    Flag,
+    // SAHF, LAHF
+    Transfer,
+    // CWDE, CDQ
+    Convert,
+    // INT
+    Trap,
+    // HLT
+    Halt,
+}
 
 #[derive(Clone, Copy)]
 pub struct Instruction {
-    pub family: u32,
+    pub family: Family,
     pub operation: u32,
     pub wide: bool,
     pub register: u32,
@@ -420,119 +424,119 @@ fn is_single(c: u32, reg: u32) -> bool
         | (((c == BYTE_GROUP) | (c == DWORD_GROUP)) & (reg < 2))
 }
 
-fn group_family(reg: u32) -> u32
+fn group_family(reg: u32) -> Family
     ensures { result ≡ group_family reg }
 {
     if reg == 2 {
-        return CALL_TO;
+        return Family::CallTo;
     }
     if reg == 4 {
-        return JUMP_TO;
+        return Family::JumpTo;
     }
-    PUSH
+    Family::Push
 }
 
-fn other_family(c: u32) -> u32
+fn other_family(c: u32) -> Family
     ensures { result ≡ other_family c }
 {
     if c == LOOP_BY {
-        return LOOP;
+        return Family::Loop;
     }
     if c == FLAG_OPERATION {
-        return FLAG;
+        return Family::Flag;
     }
     if c == FLAG_TRANSFER {
-        return TRANSFER;
+        return Family::Transfer;
     }
     if c == WIDEN {
-        return CONVERT;
+        return Family::Convert;
     }
     if (c == BREAKPOINT) | (c == INTERRUPT) {
-        return TRAP;
+        return Family::Trap;
     }
-    HALT
+    Family::Halt
 }
 
-fn flow_family(c: u32) -> u32
+fn flow_family(c: u32) -> Family
     ensures { result ≡ flow_family c }
 {
     if c == SET_IF {
-        return SET_ON;
+        return Family::SetOn;
     }
     if (c == JUMP_IF) | (c == JUMP_IF_NEAR) {
-        return JUMP_ON;
+        return Family::JumpOn;
     }
     if c == JUMP_BY {
-        return JUMP;
+        return Family::Jump;
     }
     if c == CALL_BY {
-        return CALL;
+        return Family::Call;
     }
     if (c == RETURN_PLAIN) | (c == RETURN_POPPING) {
-        return RETURN;
+        return Family::Return;
     }
     other_family(c)
 }
 
-fn move_family(c: u32) -> u32
+fn move_family(c: u32) -> Family
     ensures { result ≡ move_family c }
 {
     if (c == EXTEND_ZERO) | (c == EXTEND_SIGN) {
-        return EXTEND;
+        return Family::Extend;
     }
     if c == LOAD_ADDRESS {
-        return ADDRESS_OF;
+        return Family::AddressOf;
     }
     if (c == EXCHANGE) | (c == EXCHANGE_ACCUMULATOR) {
-        return SWAP;
+        return Family::Swap;
     }
     if c == PUSH_REGISTER {
-        return PUSH;
+        return Family::Push;
     }
     if c == PUSH_IMMEDIATE {
-        return PUSH_NUMBER;
+        return Family::PushNumber;
     }
     if (c == POP_REGISTER) | (c == POP_GROUP) {
-        return POP;
+        return Family::Pop;
     }
     flow_family(c)
 }
 
-fn arithmetic_family(c: u32) -> u32
+fn arithmetic_family(c: u32) -> Family
     ensures { result ≡ arithmetic_family c }
 {
     if c == UNARY_GROUP {
-        return ACCUMULATE;
+        return Family::Accumulate;
     }
     if (c == SHIFT_IMMEDIATE) | (c == SHIFT_ONE) {
-        return SHIFT_BY;
+        return Family::ShiftBy;
     }
     if c == SHIFT_CL {
-        return SHIFT_BY_CL;
+        return Family::ShiftByCl;
     }
     if c == MULTIPLY_IMMEDIATE {
-        return MULTIPLY_BY;
+        return Family::MultiplyBy;
     }
     if c == MULTIPLY_REGISTER {
-        return MULTIPLY_INTO;
+        return Family::MultiplyInto;
     }
     move_family(c)
 }
 
-pub fn family_of(c: u32, reg: u32) -> u32
+pub fn family_of(c: u32, reg: u32) -> Family
     ensures { result ≡ family_of c reg }
 {
     if is_to(c) {
-        return COMBINE_TO;
+        return Family::CombineTo;
     }
     if is_from(c) {
-        return COMBINE_FROM;
+        return Family::CombineFrom;
     }
     if is_combined(c, reg) {
-        return COMBINE_IMMEDIATE;
+        return Family::CombineImmediate;
     }
     if is_single(c, reg) {
-        return UNARY;
+        return Family::Unary;
     }
     if c == DWORD_GROUP {
         return group_family(reg);

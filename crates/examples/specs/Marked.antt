@@ -8,9 +8,10 @@ use Rattle.shifts.specs.Shifts.{shift}
 use Rattle.products.specs.declared.Quotient.{Quotient}
 use Rattle.products.specs.declared.Quotient.TheVariants.{Refused, Divided}
 use Rattle.products.specs.Products.{quotient}
+use Rattle.encoding.specs.declared.Family.TheVariants.{CombineFrom}
 use Rattle.encoding.specs.declared.Operand.{Operand}
 use Rattle.encoding.specs.declared.Instruction.{Instruction}
-use Rattle.encoding.specs.Families.{combine_from}
+use Rattle.encoding.specs.Families.{number_of}
 use Rattle.decode.specs.Decode.{decode, in_memory}
 use Rattle.machine.specs.declared.Control.{Control}
 use Rattle.machine.specs.declared.Reply.{Reply}
@@ -76,7 +77,7 @@ same_quotient (Divided q r) (Divided q' r') = eqb q q' && eqb r r'
 
 abbrev pub fields : Instruction → List ℕ
 fields i =
-    i.family ∷ i.operation ∷ bit i.wide ∷ i.register ∷ bit i.operand.direct ∷ i.operand.register ∷ i.operand.base
+    number_of i.family ∷ i.operation ∷ bit i.wide ∷ i.register ∷ bit i.operand.direct ∷ i.operand.register ∷ i.operand.base
     ∷ i.operand.index ∷ i.operand.scale ∷ i.operand.displacement ∷ i.immediate ∷ i.length ∷ []
 
 abbrev pub decodes : Res Instruction → Instruction → Bool
@@ -162,7 +163,7 @@ minus n = 4294967296 - n
 -- to a register from memory, in so many bytes
 abbrev pub MOV : ℕ → Operand → ℕ → Instruction
 MOV r o n =
-    record { family = combine_from; operation = mov; wide = true; register = r; operand = o; immediate = 0; length = n }
+    record { family = CombineFrom; operation = mov; wide = true; register = r; operand = o; immediate = 0; length = n }
 
 abbrev pub EAX : ℕ
 EAX = 0

@@ -2,9 +2,9 @@
 #![tactic(auto)]
 
 ghost use Rattle.std.specs.Prelude.{◌≡◌};
-ghost use Rattle.execute.specs.Execute.{permitted, writes_operand, reads_operand, first, second, compute_arithmetic, compute_move, compute_flow, compute_other, compute};
+ghost use Rattle.execute.specs.Execute.{permitted, writes_operand, reads_operand, first, second, compute};
 
-use encoding::Instruction;
+use encoding::{Family, Instruction};
 use machine::{Core, Registers, Reply, Want};
 use operands::Effect;
 
@@ -12,44 +12,49 @@ use operands::Effect;
 pub fn permitted(i: Instruction, iopl: u32, ring: u32) -> bool
     ensures { result ≡ permitted i iopl ring }
 {
-    !((i.family == encoding::HALT) & (ring == 3))
-        & !((i.family == encoding::FLAG)
-            & ((i.operation == 10) | (i.operation == 11))
-            & (iopl < ring))
+    match i.family {
+        Family::Halt => !(ring == 3),
+        Family::Flag => !(((i.operation == 10) | (i.operation == 11)) & (iopl < ring)),
+        _ => true,
+    }
 }
 
+#[tactic(auto, unfolding(crate::specs::Execute::writes_operand))]
 fn writes_operand(i: Instruction) -> bool
     ensures { result ≡ writes_operand i }
 {
-    let f = i.family;
-    (((f == encoding::COMBINE_TO) | (f == encoding::COMBINE_IMMEDIATE)) & alu::writes(i.operation))
-        | (f == encoding::UNARY)
-        | (f == encoding::SHIFT_BY)
-        | (f == encoding::SHIFT_BY_CL)
-        | (f == encoding::SWAP)
-        | (f == encoding::SET_ON)
+    match i.family {
+        Family::CombineTo | Family::CombineImmediate => alu::writes(i.operation),
+        Family::Unary | Family::ShiftBy | Family::ShiftByCl | Family::Swap | Family::SetOn => true,
+        _ => false,
+    }
 }
 
+#[tactic(auto, unfolding(crate::specs::Execute::reads_operand))]
 fn reads_operand(i: Instruction) -> bool
     ensures { result ≡ reads_operand i }
 {
-    let f = i.family;
-    ((f == encoding::COMBINE_TO) | (f == encoding::COMBINE_IMMEDIATE))
-        | (f == encoding::COMBINE_FROM)
-        | (f == encoding::ACCUMULATE)
-        | (f == encoding::MULTIPLY_BY)
-        | (f == encoding::MULTIPLY_INTO)
-        | (f == encoding::EXTEND)
-        | (f == encoding::PUSH)
-        | (f == encoding::JUMP_TO)
-        | (f == encoding::CALL_TO)
+    matches!(
+        i.family,
+        Family::CombineTo
+            | Family::CombineImmediate
+            | Family::CombineFrom
+            | Family::Accumulate
+            | Family::MultiplyBy
+            | Family::MultiplyInto
+            | Family::Extend
+            | Family::Push
+            | Family::JumpTo
+            | Family::CallTo
+    )
 }
 
 // The first access: the stack for POP and RET, else the memory operand.
+#[tactic(auto, unfolding(crate::specs::Execute::first))]
 pub fn first(i: Instruction, r: Registers) -> Want
     ensures { result ≡ first i r }
 {
-    if (i.family == encoding::POP) | (i.family == encoding::RETURN) {
+    if matches!(i.family, Family::Pop | Family::Return) {
         return Want::Read(true, r.read(4));
     }
     if writes_operand(i) {
@@ -62,137 +67,52 @@ pub fn first(i: Instruction, r: Registers) -> Want
 }
 
 // The second access: what is pushed, or the memory that POP writes.
+#[tactic(auto, unfolding(crate::specs::Execute::second))]
 pub fn second(i: Instruction, r: Registers) -> Want
     ensures { result ≡ second i r }
 {
-    let f = i.family;
-    if (f == encoding::PUSH)
-        | (f == encoding::PUSH_NUMBER)
-        | (f == encoding::CALL)
-        | (f == encoding::CALL_TO)
-    {
-        return Want::Write(true, operands::lowered(r));
+    match i.family {
+        Family::Push | Family::PushNumber | Family::Call | Family::CallTo => {
+            Want::Write(true, operands::lowered(r))
+        }
+        Family::Pop => operands::want(true, i, operands::raised(r)),
+        _ => Want::Nothing,
     }
-    if f == encoding::POP {
-        return operands::want(true, i, operands::raised(r));
-    }
-    Want::Nothing
-}
-
-fn compute_arithmetic(i: Instruction, k: Core, a: u32) -> Effect
-    ensures { result ≡ compute_arithmetic i k a }
-{
-    let f = i.family;
-    if f == encoding::COMBINE_TO {
-        return arithmetic::combine_to(i, k, a);
-    }
-    if f == encoding::COMBINE_FROM {
-        return arithmetic::combine_from(i, k, a);
-    }
-    if f == encoding::COMBINE_IMMEDIATE {
-        return arithmetic::combine_immediate(i, k, a);
-    }
-    if f == encoding::UNARY {
-        return arithmetic::unary(i, k, a);
-    }
-    if f == encoding::SHIFT_BY {
-        return arithmetic::shift(i, k, i.immediate, a);
-    }
-    if f == encoding::SHIFT_BY_CL {
-        let r = k.regs;
-        return arithmetic::shift(i, k, r.read_byte(1), a);
-    }
-    if f == encoding::ACCUMULATE {
-        return arithmetic::accumulate(i, k, a);
-    }
-    if f == encoding::MULTIPLY_BY {
-        return arithmetic::multiply_by(i, k, a);
-    }
-    arithmetic::multiply_into(i, k, a)
-}
-
-fn compute_move(i: Instruction, k: Core, a: u32) -> Effect
-    ensures { result ≡ compute_move i k a }
-{
-    let f = i.family;
-    if f == encoding::EXTEND {
-        return moves::extend(i, k, a);
-    }
-    if f == encoding::ADDRESS_OF {
-        return moves::address(i, k);
-    }
-    if f == encoding::SWAP {
-        return moves::swap(i, k, a);
-    }
-    if f == encoding::PUSH {
-        return stack::push(i, k, a);
-    }
-    if f == encoding::PUSH_NUMBER {
-        return stack::push_number(i, k);
-    }
-    if f == encoding::POP {
-        return stack::pop(i, k, a);
-    }
-    moves::set(i, k)
-}
-
-fn compute_flow(i: Instruction, k: Core, a: u32) -> Effect
-    ensures { result ≡ compute_flow i k a }
-{
-    let f = i.family;
-    if f == encoding::JUMP_ON {
-        return flow::jump_on(i, k);
-    }
-    if f == encoding::JUMP {
-        return flow::jump(i, k);
-    }
-    if f == encoding::JUMP_TO {
-        return flow::jump_to(i, k, a);
-    }
-    if f == encoding::CALL {
-        return stack::call(i, k);
-    }
-    if f == encoding::CALL_TO {
-        return stack::call_to(i, k, a);
-    }
-    if f == encoding::RETURN {
-        return stack::back(i, k, a);
-    }
-    flow::again(i, k)
-}
-
-fn compute_other(i: Instruction, k: Core) -> Effect
-    ensures { result ≡ compute_other i k }
-{
-    let f = i.family;
-    if f == encoding::FLAG {
-        return flags::flag(i, k);
-    }
-    if f == encoding::TRANSFER {
-        return flags::transfer(i, k);
-    }
-    if f == encoding::CONVERT {
-        return moves::convert(i, k);
-    }
-    if f == encoding::TRAP {
-        return flow::trap(i, k);
-    }
-    flow::halt(i, k)
 }
 
 // What comes of an instruction, where a is what its first access found.
+#[tactic(auto, unfolding(crate::specs::Execute::compute))]
 pub fn compute(i: Instruction, k: Core, a: u32) -> Effect
     ensures { result ≡ compute i k a }
 {
-    let f = i.family;
-    if f <= encoding::MULTIPLY_INTO {
-        return compute_arithmetic(i, k, a);
+    match i.family {
+        Family::CombineTo => arithmetic::combine_to(i, k, a),
+        Family::CombineFrom => arithmetic::combine_from(i, k, a),
+        Family::CombineImmediate => arithmetic::combine_immediate(i, k, a),
+        Family::Unary => arithmetic::unary(i, k, a),
+        Family::ShiftBy => arithmetic::shift(i, k, i.immediate, a),
+        Family::ShiftByCl => arithmetic::shift(i, k, k.regs.read_byte(1), a),
+        Family::Accumulate => arithmetic::accumulate(i, k, a),
+        Family::MultiplyBy => arithmetic::multiply_by(i, k, a),
+        Family::MultiplyInto => arithmetic::multiply_into(i, k, a),
+        Family::Extend => moves::extend(i, k, a),
+        Family::AddressOf => moves::address(i, k),
+        Family::Swap => moves::swap(i, k, a),
+        Family::Push => stack::push(i, k, a),
+        Family::PushNumber => stack::push_number(i, k),
+        Family::Pop => stack::pop(i, k, a),
+        Family::SetOn => moves::set(i, k),
+        Family::JumpOn => flow::jump_on(i, k),
+        Family::Jump => flow::jump(i, k),
+        Family::JumpTo => flow::jump_to(i, k, a),
+        Family::Call => stack::call(i, k),
+        Family::CallTo => stack::call_to(i, k, a),
+        Family::Return => stack::back(i, k, a),
+        Family::Loop => flow::again(i, k),
+        Family::Flag => flags::flag(i, k),
+        Family::Transfer => flags::transfer(i, k),
+        Family::Convert => moves::convert(i, k),
+        Family::Trap => flow::trap(i, k),
+        Family::Halt => flow::halt(i, k),
     }
-    if f <= encoding::SET_ON {
-        return compute_move(i, k, a);
-    }
-    if f <= encoding::LOOP {
-        return compute_flow(i, k, a);
-    }
-    compute_other(i, k)
 }

@@ -15,7 +15,7 @@ use Rattle.machine.specs.Act.{byte, counted, fetch, access, stores_of, store, pl
 use Rattle.machine.specs.Run.{settle, checked, onward}
 use Rattle.operands.specs.Operands.{address, operand_want, operand_value, deposit}
 use Rattle.arithmetic.specs.Arithmetic.{combined_from, do_combine_from, do_unary}
-use Rattle.execute.specs.Execute.{writes_operand, reads_operand, first, second, compute_arithmetic, compute}
+use Rattle.execute.specs.Execute.{writes_operand, reads_operand, first, second, compute}
 use Rattle.phases.specs.Step.{allowed, leave, instruction, micro32}
 use Rattle.leaks.specs.Guest.{frame, shown, memory}
 use Rattle.leaks.specs.OtherView.{step_by, steps_by, run_by, open_view}
@@ -26,6 +26,6 @@ unfolding parity ones sum_status single operate operate_one operation class_of f
     number prefixed opcode after_modrm judged finish with_modrm classed decode
     read_at write_at flags_in pack sound_at numbered entry_of within leaf under page_at ask rights reach translate view
     patch patches marks_of if_at marks stored touched written commit byte counted fetch access stores_of store plan_of settle checked onward
-    address operand_want operand_value deposit combined_from do_combine_from do_unary writes_operand reads_operand first second compute_arithmetic compute
+    address operand_want operand_value deposit combined_from do_combine_from do_unary writes_operand reads_operand first second compute
     allowed leave instruction micro32 frame shown memory step_by steps_by run_by open_view
 worked = (λ k. (refl, refl, refl), (refl, refl))

@@ -9,6 +9,8 @@ use Rattle.machine.specs.declared.Want.TheVariants.{Nothing}
 use Rattle.machine.specs.Record.{Mem, at, register, write_at}
 use Rattle.machine.specs.Paging.{View}
 use Rattle.machine.specs.Act.{ok}
+use Rattle.encoding.specs.declared.Family.{Family}
+use Rattle.encoding.specs.declared.Family.TheVariants.{CombineTo, CombineFrom, CombineImmediate, MultiplyBy, AddressOf}
 use Rattle.encoding.specs.declared.Instruction.{Instruction}
 use Rattle.encoding.specs.Attributes.{reg_field}
 use Rattle.fetch.specs.Read.{log_at}
@@ -16,7 +18,7 @@ use Rattle.decode.specs.Decode.{decode}
 use Rattle.operands.specs.Operands.{scaled, address, operand_want, operand_value, deposit}
 use Rattle.arithmetic.specs.Arithmetic.{combined, combined_from, do_combine_from, deposited, do_multiply_by}
 use Rattle.moves.specs.Moves.{do_address}
-use Rattle.execute.specs.Execute.{permitted, writes_operand, reads_operand, first, second, compute_arithmetic, compute_move, compute}
+use Rattle.execute.specs.Execute.{permitted, writes_operand, reads_operand, first, second, compute}
 use Rattle.shortcut.specs.Bytes.{operand_at}
 use Rattle.shifts.specs.Shifts.{shift}
 use Rattle.outcome.specs.Outcome.{file, want_first, want_second, out_of, result_of, stacked, deposit_of, core_after}
@@ -37,7 +39,7 @@ pub record Shifting (g : ℕ) : Type 0 where
   pub back : (8 + g) % 8 ≡ g
 
 -- an instruction of two operands
-abbrev pub combining_at : Mem → ℕ → ℕ → ℕ → ℕ → ℕ → Instruction
+abbrev pub combining_at : Mem → ℕ → Family → ℕ → ℕ → ℕ → Instruction
 combining_at m i f op x n = record { family = f; operation = op; wide = is_odd (at m i); register = reg_field (at m (i + 1)); operand = operand_at m (i + 2) (at m (i + 1)); immediate = x; length = n }
 
 module _ (v : View) (m : Mem) (e : List ℕ) (s : Status) (eip i : ℕ) (int dir : Bool) where
@@ -50,32 +52,32 @@ module _ (v : View) (m : Mem) (e : List ℕ) (s : Status) (eip i : ℕ) (int dir
   abbrev md : ℕ
   md = at m (i + 1)
 
-  abbrev pub combining : ℕ → ℕ → ℕ → ℕ → Instruction
+  abbrev pub combining : Family → ℕ → ℕ → ℕ → Instruction
   combining f op x n = combining_at m i f op x n
 
   direct : {d : Bool} → is_direct md ≡ d → (operand_at m (i + 2) md).direct ≡ d
   direct h = operand_direct m (i + 2) md ∙ h
 
   module _ (op x n : ℕ) where
-    pub first_to : first (combining 1 op x n) (file e) ≡ cond (writes op) (operand_want true (combining 1 op x n) (file e)) (operand_want false (combining 1 op x n) (file e))
+    pub first_to : first (combining CombineTo op x n) (file e) ≡ cond (writes op) (operand_want true (combining CombineTo op x n) (file e)) (operand_want false (combining CombineTo op x n) (file e))
     unfolding first writes_operand reads_operand
     first_to = by (writes op) refl
       where
-        by : (w : Bool) → writes op ≡ w → first (combining 1 op x n) (file e) ≡ cond (writes op) (operand_want true (combining 1 op x n) (file e)) (operand_want false (combining 1 op x n) (file e))
+        by : (w : Bool) → writes op ≡ w → first (combining CombineTo op x n) (file e) ≡ cond (writes op) (operand_want true (combining CombineTo op x n) (file e)) (operand_want false (combining CombineTo op x n) (file e))
         by true h = rw h
         by false h = rw h
 
-    pub first_number : first (combining 3 op x n) (file e) ≡ cond (writes op) (operand_want true (combining 3 op x n) (file e)) (operand_want false (combining 3 op x n) (file e))
+    pub first_number : first (combining CombineImmediate op x n) (file e) ≡ cond (writes op) (operand_want true (combining CombineImmediate op x n) (file e)) (operand_want false (combining CombineImmediate op x n) (file e))
     unfolding first writes_operand reads_operand
     first_number = by (writes op) refl
       where
-        by : (w : Bool) → writes op ≡ w → first (combining 3 op x n) (file e) ≡ cond (writes op) (operand_want true (combining 3 op x n) (file e)) (operand_want false (combining 3 op x n) (file e))
+        by : (w : Bool) → writes op ≡ w → first (combining CombineImmediate op x n) (file e) ≡ cond (writes op) (operand_want true (combining CombineImmediate op x n) (file e)) (operand_want false (combining CombineImmediate op x n) (file e))
         by true h = rw h
         by false h = rw h
 
   -- ---- on the operand
 
-  module _ (f op x y n : ℕ) (low : ltb op 10 ≡ true)
+  module _ (f : Family) (op x y n : ℕ) (low : ltb op 10 ≡ true)
       (de : decode eip v (log_at eip 0) ≡ ok (combining f op x n) (log_at eip n))
       (free' : (iopl ring : ℕ) → permitted (combining f op x n) iopl ring ≡ true)
       (first' : first (combining f op x n) (file e) ≡ cond (writes op) (operand_want true (combining f op x n) (file e)) (operand_want false (combining f op x n) (file e)))
@@ -135,7 +137,7 @@ module _ (v : View) (m : Mem) (e : List ℕ) (s : Status) (eip i : ℕ) (int dir
 
   -- ---- shifts of the operand, and its product
 
-  module _ (f x y n : ℕ) (odd : is_odd b ≡ true) (by : Shifting (reg_field md))
+  module _ (f : Family) (x y n : ℕ) (odd : is_odd b ≡ true) (by : Shifting (reg_field md))
       (de : decode eip v (log_at eip 0) ≡ ok (combining f (reg_field md) x n) (log_at eip n))
       (free' : (iopl ring : ℕ) → permitted (combining f (reg_field md) x n) iopl ring ≡ true)
       (first' : first (combining f (reg_field md) x n) (file e) ≡ operand_want true (combining f (reg_field md) x n) (file e))
@@ -172,10 +174,10 @@ module _ (v : View) (m : Mem) (e : List ℕ) (s : Status) (eip i : ℕ) (int dir
 
   module _ (op x n : ℕ) (long : Bool) (number : x ≡ number_at long m (i + up_to m i md)) (len : n ≡ up_to m i md + cond long 4 1) where
     abbrev timing : Instruction
-    timing = record { family = 8; operation = op; wide = true; register = reg_field md; operand = operand_at m (i + 2) md; immediate = x; length = n }
+    timing = record { family = MultiplyBy; operation = op; wide = true; register = reg_field md; operand = operand_at m (i + 2) md; immediate = x; length = n }
 
     pub times_fits : decode eip v (log_at eip 0) ≡ ok timing (log_at eip n) → Fits v k (times_fast m e eip i long md)
-    unfolding first second writes_operand reads_operand compute compute_arithmetic do_multiply_by operand_value operand_want write_at times_fast spot_of want_first want_second out_of result_of stacked deposit_of core_after
+    unfolding first second writes_operand reads_operand compute do_multiply_by operand_value operand_want write_at times_fast spot_of want_first want_second out_of result_of stacked deposit_of core_after
     times_fits de = at_operand (is_direct md) refl
       where
         at_operand : (d : Bool) → is_direct md ≡ d → Fits v k (times_fast m e eip i long md)
@@ -206,16 +208,16 @@ module _ (v : View) (m : Mem) (e : List ℕ) (s : Status) (eip i : ℕ) (int dir
   -- ---- on the register
 
   module _ (op x n : ℕ) (low : ltb op 10 ≡ true) (len : n ≡ up_to m i md)
-      (de : decode eip v (log_at eip 0) ≡ ok (combining 2 op x n) (log_at eip n)) where
+      (de : decode eip v (log_at eip 0) ≡ ok (combining CombineFrom op x n) (log_at eip n)) where
     pub from_fits : Fits v k (from_fast m e eip i op b md)
-    unfolding first second writes_operand reads_operand compute compute_arithmetic do_combine_from combined_from operand_value operand_want from_fast spot_of want_first want_second out_of result_of stacked deposit_of core_after
+    unfolding first second writes_operand reads_operand compute do_combine_from combined_from operand_value operand_want from_fast spot_of want_first want_second out_of result_of stacked deposit_of core_after
     from_fits = by (is_direct md) refl (writes op) refl
       where
         by : (d : Bool) → is_direct md ≡ d → (w : Bool) → writes op ≡ w → Fits v k (from_fast m e eip i op b md)
         by true d true w =
             let r = operand_register m (i + 2) md d in
             record {
-              instr = combining 2 op x n;
+              instr = combining CombineFrom op x n;
               decodes = de;
               free = λ _ _. refl;
               firstly = rw (direct d, d);
@@ -227,7 +229,7 @@ module _ (v : View) (m : Mem) (e : List ℕ) (s : Status) (eip i : ℕ) (int dir
         by true d false w =
             let r = operand_register m (i + 2) md d in
             record {
-              instr = combining 2 op x n;
+              instr = combining CombineFrom op x n;
               decodes = de;
               free = λ _ _. refl;
               firstly = rw (direct d, d);
@@ -238,7 +240,7 @@ module _ (v : View) (m : Mem) (e : List ℕ) (s : Status) (eip i : ℕ) (int dir
             }
         by false d true w =
             record {
-              instr = combining 2 op x n;
+              instr = combining CombineFrom op x n;
               decodes = de;
               free = λ _ _. refl;
               firstly = rw (direct d, d);
@@ -249,7 +251,7 @@ module _ (v : View) (m : Mem) (e : List ℕ) (s : Status) (eip i : ℕ) (int dir
             }
         by false d false w =
             record {
-              instr = combining 2 op x n;
+              instr = combining CombineFrom op x n;
               decodes = de;
               free = λ _ _. refl;
               firstly = rw (direct d, d);
@@ -263,10 +265,10 @@ module _ (v : View) (m : Mem) (e : List ℕ) (s : Status) (eip i : ℕ) (int dir
 
   module _ (op x n : ℕ) (len : n ≡ up_to m i md) (mem : is_direct md ≡ false) where
     abbrev loading : Instruction
-    loading = record { family = 11; operation = op; wide = true; register = reg_field md; operand = operand_at m (i + 2) md; immediate = x; length = n }
+    loading = record { family = AddressOf; operation = op; wide = true; register = reg_field md; operand = operand_at m (i + 2) md; immediate = x; length = n }
 
     pub address_fits : decode eip v (log_at eip 0) ≡ ok loading (log_at eip n) → Fits v k (address_fast m e eip i md)
-    unfolding first second writes_operand reads_operand compute compute_move do_address address address_fast spot_of want_first want_second operate operation out_of result_of stacked deposit_of core_after write_at
+    unfolding first second writes_operand reads_operand compute do_address address address_fast spot_of want_first want_second operate operation out_of result_of stacked deposit_of core_after write_at
     address_fits de = record {
       instr = loading;
       decodes = de;

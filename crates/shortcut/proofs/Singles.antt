@@ -9,6 +9,8 @@ use Rattle.machine.specs.declared.Core.{Core}
 use Rattle.machine.specs.Record.{Mem, at, wrap, register, read_at, write_at}
 use Rattle.machine.specs.Paging.{View}
 use Rattle.machine.specs.Act.{ok}
+use Rattle.encoding.specs.declared.Family.{Family}
+use Rattle.encoding.specs.declared.Family.TheVariants.{CombineImmediate, Unary, Push, PushNumber, Pop, JumpOn, Jump, Call, Return}
 use Rattle.encoding.specs.declared.Instruction.{Instruction}
 use Rattle.fetch.specs.Read.{log_at}
 use Rattle.decode.specs.Decode.{decode, in_register}
@@ -16,7 +18,7 @@ use Rattle.operands.specs.Operands.{operand_want, operand_value, deposit}
 use Rattle.arithmetic.specs.Arithmetic.{combined, do_combine_immediate, do_unary}
 use Rattle.stack.specs.Stack.{do_push, do_push_number, do_pop, do_call, do_return}
 use Rattle.flow.specs.Flow.{do_jump_on, do_jump}
-use Rattle.execute.specs.Execute.{writes_operand, reads_operand, first, second, compute_arithmetic, compute_move, compute_flow, compute}
+use Rattle.execute.specs.Execute.{writes_operand, reads_operand, first, second, compute}
 use Rattle.outcome.specs.Outcome.{file, want_first, want_second, out_of, result_of, stacked, deposit_of, core_after}
 use Rattle.shortcut.specs.Forms.{number_at, register_fast, count_fast, jump_fast, push_fast, pop_fast}
 use Rattle.shortcut.specs.Shortcut.{Fits, core_from}
@@ -26,7 +28,7 @@ same : (x : ℕ) → x < 4294967296 → x % 4294967296 ≡ x
 same x h = omega arith
 
 -- an instruction that names register r in its opcode, or none
-abbrev pub naming : ℕ → ℕ → Bool → ℕ → ℕ → ℕ → Instruction
+abbrev pub naming : Family → ℕ → Bool → ℕ → ℕ → ℕ → Instruction
 naming f op w r x n = record { family = f; operation = op; wide = w; register = 0; operand = in_register r; immediate = x; length = n }
 
 module _ (v : View) (m : Mem) (e : List ℕ) (s : Status) (eip i : ℕ) (int dir : Bool) where
@@ -40,10 +42,10 @@ module _ (v : View) (m : Mem) (e : List ℕ) (s : Status) (eip i : ℕ) (int dir
   module _ (op x n : ℕ) (w : Bool) (low : ltb op 10 ≡ true) (named : ltb n 8 ≡ true)
       (holding : (y : ℕ) → operate op w (read_at w (file e) n) y s ≡ operate op w x y s) where
     abbrev by_number : Instruction
-    by_number = naming 3 op w n (number_at w m (i + 1)) (1 + cond w 4 1)
+    by_number = naming CombineImmediate op w n (number_at w m (i + 1)) (1 + cond w 4 1)
 
     pub register_fits : decode eip v (log_at eip 0) ≡ ok by_number (log_at eip (1 + cond w 4 1)) → Fits v k (register_fast m eip i op w x n)
-    unfolding first second writes_operand reads_operand compute compute_arithmetic do_combine_immediate combined deposit operand_value operand_want register_fast want_first want_second out_of result_of stacked deposit_of core_after
+    unfolding first second writes_operand reads_operand compute do_combine_immediate combined deposit operand_value operand_want register_fast want_first want_second out_of result_of stacked deposit_of core_after
     register_fits de = by (writes op) refl
       where
         by : (d : Bool) → writes op ≡ d → Fits v k (register_fast m eip i op w x n)
@@ -69,10 +71,10 @@ module _ (v : View) (m : Mem) (e : List ℕ) (s : Status) (eip i : ℕ) (int dir
         }
 
   module _ (x : ℕ) where
-    pub inc_fits : decode eip v (log_at eip 0) ≡ ok (naming 4 0 true (b % 8) x 1) (log_at eip 1) → Fits v k (count_fast e eip 10 b)
-    unfolding first second writes_operand reads_operand compute compute_arithmetic do_unary deposit operand_value operand_want read_at count_fast want_first want_second out_of result_of stacked deposit_of core_after
+    pub inc_fits : decode eip v (log_at eip 0) ≡ ok (naming Unary 0 true (b % 8) x 1) (log_at eip 1) → Fits v k (count_fast e eip 10 b)
+    unfolding first second writes_operand reads_operand compute do_unary deposit operand_value operand_want read_at count_fast want_first want_second out_of result_of stacked deposit_of core_after
     inc_fits de = record {
-      instr = naming 4 0 true (b % 8) x 1;
+      instr = naming Unary 0 true (b % 8) x 1;
       decodes = de;
       free = λ _ _. refl;
       firstly = refl;
@@ -82,10 +84,10 @@ module _ (v : View) (m : Mem) (e : List ℕ) (s : Status) (eip i : ℕ) (int dir
       value = λ a _ z. absurd (false≢true z);
     }
 
-    pub dec_fits : decode eip v (log_at eip 0) ≡ ok (naming 4 1 true (b % 8) x 1) (log_at eip 1) → Fits v k (count_fast e eip 11 b)
-    unfolding first second writes_operand reads_operand compute compute_arithmetic do_unary deposit operand_value operand_want read_at count_fast want_first want_second out_of result_of stacked deposit_of core_after
+    pub dec_fits : decode eip v (log_at eip 0) ≡ ok (naming Unary 1 true (b % 8) x 1) (log_at eip 1) → Fits v k (count_fast e eip 11 b)
+    unfolding first second writes_operand reads_operand compute do_unary deposit operand_value operand_want read_at count_fast want_first want_second out_of result_of stacked deposit_of core_after
     dec_fits de = record {
-      instr = naming 4 1 true (b % 8) x 1;
+      instr = naming Unary 1 true (b % 8) x 1;
       decodes = de;
       free = λ _ _. refl;
       firstly = refl;
@@ -98,10 +100,10 @@ module _ (v : View) (m : Mem) (e : List ℕ) (s : Status) (eip i : ℕ) (int dir
   -- ---- jumps
 
   module _ (op r x n : ℕ) where
-    pub jump_fits : decode eip v (log_at eip 0) ≡ ok (naming 18 op true r x n) (log_at eip n) → Fits v k (jump_fast (wrap (wrap (eip + n) + x)))
-    unfolding first second writes_operand reads_operand compute compute_flow do_jump operate operation jump_fast want_first want_second out_of result_of stacked deposit_of core_after
+    pub jump_fits : decode eip v (log_at eip 0) ≡ ok (naming Jump op true r x n) (log_at eip n) → Fits v k (jump_fast (wrap (wrap (eip + n) + x)))
+    unfolding first second writes_operand reads_operand compute do_jump operate operation jump_fast want_first want_second out_of result_of stacked deposit_of core_after
     jump_fits de = record {
-      instr = naming 18 op true r x n;
+      instr = naming Jump op true r x n;
       decodes = de;
       free = λ _ _. refl;
       firstly = refl;
@@ -111,10 +113,10 @@ module _ (v : View) (m : Mem) (e : List ℕ) (s : Status) (eip i : ℕ) (int dir
       value = λ a _ z. absurd (false≢true z);
     }
 
-    pub jump_on_lem : holds op s ≡ true → decode eip v (log_at eip 0) ≡ ok (naming 17 op true r x n) (log_at eip n) → Fits v k (jump_fast (wrap (wrap (eip + n) + x)))
-    unfolding first second writes_operand reads_operand compute compute_flow do_jump_on operate operation jump_fast want_first want_second out_of result_of stacked deposit_of core_after
+    pub jump_on_lem : holds op s ≡ true → decode eip v (log_at eip 0) ≡ ok (naming JumpOn op true r x n) (log_at eip n) → Fits v k (jump_fast (wrap (wrap (eip + n) + x)))
+    unfolding first second writes_operand reads_operand compute do_jump_on operate operation jump_fast want_first want_second out_of result_of stacked deposit_of core_after
     jump_on_lem h de = record {
-      instr = naming 17 op true r x n;
+      instr = naming JumpOn op true r x n;
       decodes = de;
       free = λ _ _. refl;
       firstly = refl;
@@ -124,10 +126,10 @@ module _ (v : View) (m : Mem) (e : List ℕ) (s : Status) (eip i : ℕ) (int dir
       value = λ a _ z. absurd (false≢true z);
     }
 
-    pub jump_off : holds op s ≡ false → decode eip v (log_at eip 0) ≡ ok (naming 17 op true r x n) (log_at eip n) → Fits v k (jump_fast (wrap (eip + n)))
-    unfolding first second writes_operand reads_operand compute compute_flow do_jump_on operate operation jump_fast want_first want_second out_of result_of stacked deposit_of core_after
+    pub jump_off : holds op s ≡ false → decode eip v (log_at eip 0) ≡ ok (naming JumpOn op true r x n) (log_at eip n) → Fits v k (jump_fast (wrap (eip + n)))
+    unfolding first second writes_operand reads_operand compute do_jump_on operate operation jump_fast want_first want_second out_of result_of stacked deposit_of core_after
     jump_off h de = record {
-      instr = naming 17 op true r x n;
+      instr = naming JumpOn op true r x n;
       decodes = de;
       free = λ _ _. refl;
       firstly = refl;
@@ -139,11 +141,11 @@ module _ (v : View) (m : Mem) (e : List ℕ) (s : Status) (eip i : ℕ) (int dir
 
     -- ---- the stack
 
-    pub push_fits : register (file e) r < 4294967296 → decode eip v (log_at eip 0) ≡ ok (naming 13 op true r x n) (log_at eip n)
+    pub push_fits : register (file e) r < 4294967296 → decode eip v (log_at eip 0) ≡ ok (naming Push op true r x n) (log_at eip n)
         → Fits v k (push_fast e (register (file e) r) (wrap (eip + n)))
-    unfolding first second writes_operand reads_operand compute compute_move do_push operand_value operand_want read_at operate operation push_fast want_first want_second out_of result_of stacked deposit_of core_after
+    unfolding first second writes_operand reads_operand compute do_push operand_value operand_want read_at operate operation push_fast want_first want_second out_of result_of stacked deposit_of core_after
     push_fits h de = record {
-      instr = naming 13 op true r x n;
+      instr = naming Push op true r x n;
       decodes = de;
       free = λ _ _. refl;
       firstly = refl;
@@ -153,10 +155,10 @@ module _ (v : View) (m : Mem) (e : List ℕ) (s : Status) (eip i : ℕ) (int dir
       value = λ a _ z. sym (same (register (file e) r) h);
     }
 
-    pub push_number_fits : x < 4294967296 → decode eip v (log_at eip 0) ≡ ok (naming 14 op true r x n) (log_at eip n) → Fits v k (push_fast e x (wrap (eip + n)))
-    unfolding first second writes_operand reads_operand compute compute_move do_push_number operate operation push_fast want_first want_second out_of result_of stacked deposit_of core_after
+    pub push_number_fits : x < 4294967296 → decode eip v (log_at eip 0) ≡ ok (naming PushNumber op true r x n) (log_at eip n) → Fits v k (push_fast e x (wrap (eip + n)))
+    unfolding first second writes_operand reads_operand compute do_push_number operate operation push_fast want_first want_second out_of result_of stacked deposit_of core_after
     push_number_fits h de = record {
-      instr = naming 14 op true r x n;
+      instr = naming PushNumber op true r x n;
       decodes = de;
       free = λ _ _. refl;
       firstly = refl;
@@ -166,10 +168,10 @@ module _ (v : View) (m : Mem) (e : List ℕ) (s : Status) (eip i : ℕ) (int dir
       value = λ a _ z. sym (same x h);
     }
 
-    pub call_fits : decode eip v (log_at eip 0) ≡ ok (naming 20 op true r x n) (log_at eip n) → Fits v k (push_fast e (wrap (eip + n)) (wrap (wrap (eip + n) + x)))
-    unfolding first second writes_operand reads_operand compute compute_flow do_call operate operation push_fast want_first want_second out_of result_of stacked deposit_of core_after
+    pub call_fits : decode eip v (log_at eip 0) ≡ ok (naming Call op true r x n) (log_at eip n) → Fits v k (push_fast e (wrap (eip + n)) (wrap (wrap (eip + n) + x)))
+    unfolding first second writes_operand reads_operand compute do_call operate operation push_fast want_first want_second out_of result_of stacked deposit_of core_after
     call_fits de = record {
-      instr = naming 20 op true r x n;
+      instr = naming Call op true r x n;
       decodes = de;
       free = λ _ _. refl;
       firstly = refl;
@@ -180,10 +182,10 @@ module _ (v : View) (m : Mem) (e : List ℕ) (s : Status) (eip i : ℕ) (int dir
     }
 
   module _ (op x n : ℕ) where
-    pub pop_fits : decode eip v (log_at eip 0) ≡ ok (naming 15 op true (b % 8) x n) (log_at eip n) → Fits v k (pop_fast e 5 (b % 8) (wrap (eip + n)))
-    unfolding first second writes_operand reads_operand compute compute_move do_pop deposit operand_want write_at operate operation pop_fast want_first want_second out_of result_of stacked deposit_of core_after
+    pub pop_fits : decode eip v (log_at eip 0) ≡ ok (naming Pop op true (b % 8) x n) (log_at eip n) → Fits v k (pop_fast e 5 (b % 8) (wrap (eip + n)))
+    unfolding first second writes_operand reads_operand compute do_pop deposit operand_want write_at operate operation pop_fast want_first want_second out_of result_of stacked deposit_of core_after
     pop_fits de = record {
-      instr = naming 15 op true (b % 8) x n;
+      instr = naming Pop op true (b % 8) x n;
       decodes = de;
       free = λ _ _. refl;
       firstly = refl;
@@ -193,10 +195,10 @@ module _ (v : View) (m : Mem) (e : List ℕ) (s : Status) (eip i : ℕ) (int dir
       value = λ a _ z. absurd (false≢true z);
     }
 
-    pub return_fits : decode eip v (log_at eip 0) ≡ ok (naming 22 op true x 0 n) (log_at eip n) → Fits v k (pop_fast e 6 8 (wrap (eip + n)))
-    unfolding first second writes_operand reads_operand compute compute_flow do_return operate operation pop_fast want_first want_second out_of result_of stacked deposit_of core_after
+    pub return_fits : decode eip v (log_at eip 0) ≡ ok (naming Return op true x 0 n) (log_at eip n) → Fits v k (pop_fast e 6 8 (wrap (eip + n)))
+    unfolding first second writes_operand reads_operand compute do_return operate operation pop_fast want_first want_second out_of result_of stacked deposit_of core_after
     return_fits de = record {
-      instr = naming 22 op true x 0 n;
+      instr = naming Return op true x 0 n;
       decodes = de;
       free = λ _ _. refl;
       firstly = refl;

@@ -8,6 +8,7 @@ use Rattle.conditions.specs.Conditions.{holds}
 use Rattle.machine.specs.Record.{Mem, at, wrap, register, read_at}
 use Rattle.machine.specs.Paging.{View, dword_at}
 use Rattle.alu.specs.Arithmetic.{operate, operation, writes}
+use Rattle.encoding.specs.declared.Family.TheVariants.{CombineTo, CombineFrom, CombineImmediate, ShiftBy, ShiftByCl, JumpOn}
 use Rattle.encoding.specs.declared.Instruction.{Instruction}
 use Rattle.encoding.specs.Encodings.{class_of}
 use Rattle.encoding.specs.Attributes.{reg_field, has_modrm, undefined_form, unbuilt_form, is_wide, immediate_bytes, immediate_of, family_of, operation_of as operationIn, arithmetic_family, move_family, flow_family, long_opcode}
@@ -15,7 +16,7 @@ use Rattle.machine.specs.Act.{ok}
 use Rattle.fetch.specs.Fetch.{signed, number}
 use Rattle.fetch.specs.Read.{log_at}
 use Rattle.decode.specs.Decode.{decode}
-use Rattle.execute.specs.Execute.{first, second, writes_operand, compute_arithmetic, compute}
+use Rattle.execute.specs.Execute.{first, second, writes_operand, compute}
 use Rattle.arithmetic.specs.Arithmetic.{do_combine_to, do_combine_immediate, do_shift}
 use Rattle.outcome.specs.declared.Fast.{Fast}
 use Rattle.shortcut.specs.Bytes.{Shows, operand_at}
@@ -107,10 +108,10 @@ module _ (m : Mem) (e : List ℕ) (s : Status) (eip i : ℕ) where
       (up_to m i md)
   bare c h l r u w n v sh = with_modrm_lem v m eip i sh c 0 _ (own v m eip i sh c h l) r u w (rw n (number_none v m eip i sh _))
 
-  to_read : (op : ℕ) → ltb op 10 ≡ true → Reads (combining_at m i 1 op 0 (up_to m i md)) (up_to m i md) → FastOk m e s eip i (to_fast m e eip i op b md)
-  unfolding second compute compute_arithmetic do_combine_to left_fast
+  to_read : (op : ℕ) → ltb op 10 ≡ true → Reads (combining_at m i CombineTo op 0 (up_to m i md)) (up_to m i md) → FastOk m e s eip i (to_fast m e eip i op b md)
+  unfolding second compute do_combine_to left_fast
   to_read op low de = working m e s eip i _ (refl, refl) (left_tidy m e eip i op b md _ _) λ int dir v sh.
-      left_fits v m e s eip i int dir 1 op 0 _ (up_to m i md) low (de v sh) (λ _ _. refl) (first_to v m e s eip i int dir _ _ _) refl (λ a. refl)
+      left_fits v m e s eip i int dir CombineTo op 0 _ (up_to m i md) low (de v sh) (λ _ _. refl) (first_to v m e s eip i int dir _ _ _) refl (λ a. refl)
 
   to_4 : class_of b ≡ 4 → FastOk m e s eip i (to_fast m e eip i (b / 8 % 8) b md)
   unfolding family_of operationIn
@@ -124,7 +125,7 @@ module _ (m : Mem) (e : List ℕ) (s : Status) (eip i : ℕ) where
   unfolding family_of operationIn
   to_11 h = to_read 9 refl (bare 11 h (omega arith) refl refl refl refl)
 
-  from_read : (op : ℕ) → ltb op 10 ≡ true → Reads (combining_at m i 2 op 0 (up_to m i md)) (up_to m i md) → FastOk m e s eip i (from_fast m e eip i op b md)
+  from_read : (op : ℕ) → ltb op 10 ≡ true → Reads (combining_at m i CombineFrom op 0 (up_to m i md)) (up_to m i md) → FastOk m e s eip i (from_fast m e eip i op b md)
   unfolding from_fast
   from_read op low de = working m e s eip i _ (refl, refl) (few_tidy _ (cond_le (is_direct md) 2 (omega arith) (omega arith))) λ int dir v sh. from_fits v m e s eip i int dir op 0 _ low refl (de v sh)
 
@@ -143,11 +144,11 @@ module _ (m : Mem) (e : List ℕ) (s : Status) (eip i : ℕ) where
       (bare 19 h (omega arith) refl (rw mem) refl refl v sh)
 
   -- an immediate after the operand
-  number_read : (op : ℕ) (long : Bool) → ltb op 10 ≡ true → Reads (combining_at m i 3 op (number_at long m (i + up_to m i md)) (up_to m i md + cond long 4 1)) (up_to m i md + cond long 4 1)
+  number_read : (op : ℕ) (long : Bool) → ltb op 10 ≡ true → Reads (combining_at m i CombineImmediate op (number_at long m (i + up_to m i md)) (up_to m i md + cond long 4 1)) (up_to m i md + cond long 4 1)
       → FastOk m e s eip i (number_fast m e eip i op long b md)
-  unfolding second compute compute_arithmetic do_combine_immediate left_fast
+  unfolding second compute do_combine_immediate left_fast
   number_read op long low de = working m e s eip i _ (refl, refl) (left_tidy m e eip i op b md _ _) λ int dir v sh.
-      left_fits v m e s eip i int dir 3 op (number_at long m (i + up_to m i md)) _ (up_to m i md + cond long 4 1) low (de v sh) (λ _ _. refl) (first_number v m e s eip i int dir _ _ _) refl (λ a. refl)
+      left_fits v m e s eip i int dir CombineImmediate op (number_at long m (i + up_to m i md)) _ (up_to m i md + cond long 4 1) low (de v sh) (λ _ _. refl) (first_number v m e s eip i int dir _ _ _) refl (λ a. refl)
 
   after_operand : (long : Bool) (v : View) → Shows v m eip i
       → number eip (cond long 4 1) v (log_at eip (up_to m i md)) ≡ ok (number_at long m (i + up_to m i md)) (log_at eip (up_to m i md + cond long 4 1))
@@ -172,12 +173,12 @@ module _ (m : Mem) (e : List ℕ) (s : Status) (eip i : ℕ) where
   module _ (by : Shifting g) (built : (ltb g 4 || eqb g 6) ≡ false) where
     -- whatever the opcode, in n bytes: by CL (true), or by the immediate x
     places_read : (cl : Bool) (x n : ℕ) → is_odd b ≡ true → places_at b m e (i + up_to m i md) ≡ cond cl (read_at false (file e) 1) x → up_to m i md + cond (eqb b 0xc1) 1 0 ≡ n
-        → Reads (combining_at m i (cond cl 6 5) g x n) n → FastOk m e s eip i (places_fast m e eip i b md)
-    unfolding left_fast first second writes_operand compute compute_arithmetic do_shift read_at
+        → Reads (combining_at m i (cond cl ShiftByCl ShiftBy) g x n) n → FastOk m e s eip i (places_fast m e eip i b md)
+    unfolding left_fast first second writes_operand compute do_shift read_at
     places_read true x n odd ey en de = working m e s eip i _ (refl, refl) (left_tidy m e eip i _ b md _ _) λ int dir v sh.
-        rw (ey, en) (shift_fits v m e s eip i int dir 6 x (read_at false (file e) 1) n odd by (de v sh) (λ _ _. refl) refl refl (λ a. rw odd))
+        rw (ey, en) (shift_fits v m e s eip i int dir ShiftByCl x (read_at false (file e) 1) n odd by (de v sh) (λ _ _. refl) refl refl (λ a. rw odd))
     places_read false x n odd ey en de = working m e s eip i _ (refl, refl) (left_tidy m e eip i _ b md _ _) λ int dir v sh.
-        rw (ey, en) (shift_fits v m e s eip i int dir 5 x x n odd by (de v sh) (λ _ _. refl) refl refl (λ a. rw odd))
+        rw (ey, en) (shift_fits v m e s eip i int dir ShiftBy x x n odd by (de v sh) (λ _ _. refl) refl refl (λ a. rw odd))
 
     places_193 : b ≡ 0xc1 → FastOk m e s eip i (places_fast m e eip i b md)
     unfolding family_of operationIn arithmetic_family class_of
@@ -218,7 +219,7 @@ module _ (m : Mem) (e : List ℕ) (s : Status) (eip i : ℕ) where
       register_fits v m e s eip i int dir 9 0 (b % 8) (eqb (b / 8 % 2) 1) refl (below_eight b) (λ _. refl)
       (without_modrm v m eip i sh 15 _ _ (own v m eip i sh 15 h (omega arith)) refl refl (number_long v m eip i sh (eqb (b / 8 % 2) 1) 1 (omega arith)))
 
-  accumulator_read : (op : ℕ) → ltb op 10 ≡ true → Reads (naming 3 op (is_odd b) 0 (number_at (is_odd b) m (i + 1)) (1 + cond (is_odd b) 4 1)) (1 + cond (is_odd b) 4 1)
+  accumulator_read : (op : ℕ) → ltb op 10 ≡ true → Reads (naming CombineImmediate op (is_odd b) 0 (number_at (is_odd b) m (i + 1)) (1 + cond (is_odd b) 4 1)) (1 + cond (is_odd b) 4 1)
       → FastOk m e s eip i (accumulator_fast m e eip i op b)
   unfolding register_fast
   accumulator_read op low de = working m e s eip i _ (refl, refl) (few_tidy _ (omega arith)) λ int dir v sh. register_fits v m e s eip i int dir op _ 0 (is_odd b) low refl (λ _. refl) (de v sh)
@@ -278,7 +279,7 @@ module _ (m : Mem) (e : List ℕ) (s : Status) (eip i : ℕ) where
       by int dir v (holds (b % 16) s) refl
       (without_modrm v m eip i sh 36 (signed md) 2 (own v m eip i sh 36 h (omega arith)) refl refl (rw l (number_one v m eip i sh 1 (omega arith))))
     where
-      by : (int dir : Bool) (v : View) (c : Bool) → holds (b % 16) s ≡ c → decode eip v (log_at eip 0) ≡ ok (naming 17 (b % 16) true 0 (signed md) 2) (log_at eip 2)
+      by : (int dir : Bool) (v : View) (c : Bool) → holds (b % 16) s ≡ c → decode eip v (log_at eip 0) ≡ ok (naming JumpOn (b % 16) true 0 (signed md) 2) (log_at eip 2)
           → Fits v (core_from e eip s int dir) (jump_fast (cond (holds (b % 16) s) (wrap (wrap (eip + 2) + signed md)) (wrap (eip + 2))))
       by int dir v true y de = rw y (jump_on_lem v m e s eip i int dir (b % 16) 0 (signed md) 2 y de)
       by int dir v false y de = rw y (jump_off v m e s eip i int dir (b % 16) 0 (signed md) 2 y de)

@@ -17,7 +17,7 @@ use Rattle.machine.specs.Run.{settle, checked, onward, step, steps}
 use Rattle.operands.specs.Operands.{operand_want, operand_value, deposit}
 use Rattle.arithmetic.specs.Arithmetic.{do_unary}
 use Rattle.flow.specs.Flow.{do_halt}
-use Rattle.execute.specs.Execute.{writes_operand, reads_operand, first, second, compute_arithmetic, compute_move, compute_flow, compute_other, compute}
+use Rattle.execute.specs.Execute.{writes_operand, reads_operand, first, second, compute}
 use Rattle.phases.specs.Step.{allowed, leave, instruction, micro32}
 use Rattle.wrongcpus.specs.Inputs.{not_built_always, never_varies, nothing_moved, one_real_step, invented_count}
 
@@ -25,6 +25,6 @@ pub wrong : T (not_built_always && never_varies && nothing_moved && one_real_ste
 unfolding parity ones sum_status single operate_one class_of family_of operation_of arithmetic_family move_family flow_family other_family
     number prefixed opcode finish classed decode read_at write_at flags_in pack sound_at numbered ask translate view
     patch patches if_at marks touched written commit byte counted fetch access stores_of store plan_of settle checked onward step steps
-    operand_want operand_value deposit do_unary do_halt writes_operand reads_operand first second compute_arithmetic compute_move compute_flow compute_other compute
+    operand_want operand_value deposit do_unary do_halt writes_operand reads_operand first second compute
     allowed leave instruction micro32
 wrong = tt
