@@ -37,17 +37,11 @@ pub struct Reached {
     pub entries: Option<Entries>,
 }
 
-fn wide(x: u8) -> u32
-    ensures { (result ≡ x) × (result < 256) }
-{
-    x as u32
-}
-
 // The byte at an index: 0 past the end.
 pub fn byte_at(mem: &[u8], i: usize) -> u32
     ensures { (result ≡ at mem.now i) × (result < 256) }
 {
-    if i < mem.len() { wide(mem[i]) } else { 0 }
+    if i < mem.len() { u32::from(mem[i]) } else { 0 }
 }
 
 // The byte at an index that is there.
@@ -55,7 +49,7 @@ pub fn present_byte(mem: &[u8], i: usize) -> u32
     requires { i < length mem.now }
     ensures { (result ≡ at mem.now i) × (result < 256) }
 {
-    wide(mem[i])
+    u32::from(mem[i])
 }
 
 fn slow(mem: &[u8], i: usize) -> u32
@@ -73,7 +67,7 @@ pub fn present_dword(mem: &[u8], i: usize) -> u32
     requires { i + 3 < length mem.now }
     ensures { result ≡ dword_at mem.now i }
 {
-    wide(mem[i]) + 256 * wide(mem[i + 1]) + 65536 * wide(mem[i + 2]) + 16777216 * wide(mem[i + 3])
+    u32::from(mem[i]) + 256 * u32::from(mem[i + 1]) + 65536 * u32::from(mem[i + 2]) + 16777216 * u32::from(mem[i + 3])
 }
 
 // The dword at an index: bytes past the end are 0.
