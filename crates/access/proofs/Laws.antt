@@ -32,6 +32,9 @@ found h = sym h.reached
 pub denied : {m : Mem} {c : Control} {w : Bool} {a : ℕ} {q : Reply} → Walked m c w a (Err q) → translate m c w a ≡ No q
 denied h = sym h.reached
 
+pub refusing : {m : Mem} {c : Control} {w : Bool} {a : ℕ} {q : Reply} (t : Result Reached Reply) → t ≡ Err q → Walked m c w a t → translate m c w a ≡ No q
+refusing t e h = denied (rw e at h)
+
 -- the marks of a translation: none where it was refused
 pub marks_at : (t : Result Reached Reply) (k : Option Entries) → MatchResult t (λ (x : Reached). k ≡ x.entries) (λ _. k ≡ None) → patches_of false k ≡ marks_in false t
 unfolding patches_of

@@ -34,11 +34,17 @@ pub struct Access {
     pub trail: Trail,
 }
 
+// Stays: where an access's translation is refused, the step ends there with that reply, by `let .. else` and not by `?`: the project names this form
+// (docs/DECISIONS.md, "Forms").
+
 // One byte; w: is it a write.
 fn single(mem: &[u8], c: Control, w: bool, l: u32) -> Result<Access, Reply>
     ensures { LocatedOk mem.now c (asked w false l) result }
 {
-    let t = paging::translate(mem, c, w, Linear(l))?;
+    let answer = paging::translate(mem, c, w, Linear(l));
+    let Ok(t) = answer else {
+        return Err(answer.unwrap_err());
+    };
     let value = paging::byte_at(mem, t.place.index());
     Ok(Access {
         place: Place::Byte(t.place),
@@ -56,7 +62,10 @@ fn near(mem: &[u8], c: Control, w: bool, l: u32) -> Result<Access, Reply>
     requires { (length mem.now % 4096 ≡ 0) × (l % 4096 ≤ 4092) }
     ensures { LocatedOk mem.now c (asked w true l) result }
 {
-    let t = paging::translate(mem, c, w, Linear(l))?;
+    let answer = paging::translate(mem, c, w, Linear(l));
+    let Ok(t) = answer else {
+        return Err(answer.unwrap_err());
+    };
     let value = paging::dword_at(mem, t.place);
     Ok(Access {
         place: Place::Near(t.place),
@@ -83,10 +92,22 @@ fn across(mem: &[u8], c: Control, w: bool, l: u32) -> Result<Access, Reply>
     requires { length mem.now % 4096 ≡ 0 }
     ensures { LocatedOk mem.now c (asked w true l) result }
 {
-    let t0 = paging::translate(mem, c, w, Linear(l))?;
-    let t1 = paging::translate(mem, c, w, Linear(l.wrapping_add(1)))?;
-    let t2 = paging::translate(mem, c, w, Linear(l.wrapping_add(2)))?;
-    let t3 = paging::translate(mem, c, w, Linear(l.wrapping_add(3)))?;
+    let answer0 = paging::translate(mem, c, w, Linear(l));
+    let Ok(t0) = answer0 else {
+        return Err(answer0.unwrap_err());
+    };
+    let answer1 = paging::translate(mem, c, w, Linear(l.wrapping_add(1)));
+    let Ok(t1) = answer1 else {
+        return Err(answer1.unwrap_err());
+    };
+    let answer2 = paging::translate(mem, c, w, Linear(l.wrapping_add(2)));
+    let Ok(t2) = answer2 else {
+        return Err(answer2.unwrap_err());
+    };
+    let answer3 = paging::translate(mem, c, w, Linear(l.wrapping_add(3)));
+    let Ok(t3) = answer3 else {
+        return Err(answer3.unwrap_err());
+    };
     let value = gather(mem, t0.place, t1.place, t2.place, t3.place);
     Ok(Access {
         place: Place::Across(t0.place, t1.place, t2.place, t3.place),
@@ -194,32 +215,23 @@ pub fn mark_trail(mem: &mut [u8], t: Trail, w: bool)
     mark_page(mem, t.last, w);
 }
 
-// Stores one byte; past the end, nothing.
-fn put(mem: &mut [u8], i: usize, b: u8)
-    ensures { mem.new ≡ slice_set mem.old i b }
-{
-    if i < mem.len() {
-        mem[i] = b;
-    }
-}
-
 fn put_near(mem: &mut [u8], p: Physical, v: u32)
     ensures { mem.new ≡ patches (placed (Place.Near p) v) mem.old }
 {
     let i = p.index();
-    put(mem, i, (v % 256) as u8);
-    put(mem, i + 1, (v / 256 % 256) as u8);
-    put(mem, i + 2, (v / 65536 % 256) as u8);
-    put(mem, i + 3, (v / 16777216 % 256) as u8);
+    cells::put(mem, i, (v % 256) as u8);
+    cells::put(mem, i + 1, (v / 256 % 256) as u8);
+    cells::put(mem, i + 2, (v / 65536 % 256) as u8);
+    cells::put(mem, i + 3, (v / 16777216 % 256) as u8);
 }
 
 fn put_across(mem: &mut [u8], a: Physical, b: Physical, c: Physical, d: Physical, v: u32)
     ensures { mem.new ≡ patches (placed (Place.Across a b c d) v) mem.old }
 {
-    put(mem, a.index(), (v % 256) as u8);
-    put(mem, b.index(), (v / 256 % 256) as u8);
-    put(mem, c.index(), (v / 65536 % 256) as u8);
-    put(mem, d.index(), (v / 16777216 % 256) as u8);
+    cells::put(mem, a.index(), (v % 256) as u8);
+    cells::put(mem, b.index(), (v / 256 % 256) as u8);
+    cells::put(mem, c.index(), (v / 65536 % 256) as u8);
+    cells::put(mem, d.index(), (v / 16777216 % 256) as u8);
 }
 
 fn put_in(mem: &mut [u8], at: Place, v: u32)
@@ -227,7 +239,7 @@ fn put_in(mem: &mut [u8], at: Place, v: u32)
 {
     match at {
         Place::Nowhere => {}
-        Place::Byte(p) => put(mem, p.index(), (v % 256) as u8),
+        Place::Byte(p) => cells::put(mem, p.index(), (v % 256) as u8),
         Place::Near(p) => put_near(mem, p, v),
         Place::Across(a, b, c, d) => put_across(mem, a, b, c, d, v),
     }

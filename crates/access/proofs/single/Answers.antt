@@ -1,10 +1,9 @@
-use Rattle.access.proofs.Laws.{refused_byte, denied, byte_held}
+use Rattle.access.proofs.Laws.{refused_byte, refusing, byte_held}
 use Rattle.std.proofs.Common.{rules}
-use Rattle.std.proofs.lemmas.Result.{err_from_is_err_and}
 use Rattle.access.proofs.single.Goals as goal
 
-pub returns-in_err-t : goal.returns-in_err-t
-returns-in_err-t c = let p = err_from_is_err_and c.from_residual.result c.from_residual.ensures.1 in rw (p.1, p.2) (refused_byte _ _ _ _ _ (denied c.in_err-t.ensures))
+pub returns-in_default : goal.returns-in_default
+returns-in_default c = refused_byte _ _ _ _ _ (refusing _ c.unwrap_err.ensures c.translate-answer.ensures)
 
 pub returns : goal.returns
-returns c = byte_held _ _ _ c.args.l (search rules) _ _ _ (simp (c.byte_at-value.ensures.0, c.index.ensures.0)) c.in_ok-t.ensures
+returns c = byte_held _ _ _ c.args.l (search rules) _ _ _ (simp (c.byte_at-value.ensures.0, c.index.ensures.0)) c.in-Ok.ensures
