@@ -1,26 +1,24 @@
 use Rattle.fetch.specs.Fetch.{fetch_dword}
-use Rattle.fetch.proofs.Laws.{got, missed, byte_small}
+use Rattle.fetch.proofs.Laws.{got, missed}
+use Rattle.std.proofs.lemmas.Result.{err_from_is_err_and}
 use Rattle.fetch.proofs.fetch_dword.Goals as goal
 
-pub returns-in_default : goal.returns-in_default
+pub returns-in_err-b0 : goal.returns-in_err-b0
 unfolding fetch_dword
-returns-in_default c = rw (missed _ c.fetch-r0.ensures.does c.in_default.is c.miss.ensures)
+returns-in_err-b0 c = let p = err_from_is_err_and c.from_residual.result c.from_residual.ensures.1 in rw (p.1, p.2, missed c.args.s.eip c.in_err-b0.ensures.does)
 
-pub returns-in_default-r1 : goal.returns-in_default-r1
+pub returns-in_err-b1 : goal.returns-in_err-b1
 unfolding fetch_dword
-returns-in_default-r1 c = rw (got _ c.fetch-r0.ensures.does c.in-Got.is, missed _ c.fetch-r1.ensures.does c.in_default-r1.is c.miss-in_default-r1.ensures)
+returns-in_err-b1 c = let p = err_from_is_err_and c.from_residual-in_err-b1.result c.from_residual-in_err-b1.ensures.1 in rw (p.1, p.2, got c.args.s.eip c.in_ok-b0.ensures.does, missed c.args.s.eip c.in_err-b1.ensures.does)
 
-pub returns-in_default-r2 : goal.returns-in_default-r2
+pub returns-in_err-b2 : goal.returns-in_err-b2
 unfolding fetch_dword
-returns-in_default-r2 c = rw (got _ c.fetch-r0.ensures.does c.in-Got.is, got _ c.fetch-r1.ensures.does c.in-Got-r1.is, missed _ c.fetch-r2.ensures.does c.in_default-r2.is c.miss-in_default-r2.ensures)
+returns-in_err-b2 c = let p = err_from_is_err_and c.from_residual-in_err-b2.result c.from_residual-in_err-b2.ensures.1 in rw (p.1, p.2, got c.args.s.eip c.in_ok-b0.ensures.does, got c.args.s.eip c.in_ok-b1.ensures.does, missed c.args.s.eip c.in_err-b2.ensures.does)
 
-pub returns-in_default-r3 : goal.returns-in_default-r3
+pub returns-in_err-b3 : goal.returns-in_err-b3
 unfolding fetch_dword
-returns-in_default-r3 c = rw (got _ c.fetch-r0.ensures.does c.in-Got.is, got _ c.fetch-r1.ensures.does c.in-Got-r1.is, got _ c.fetch-r2.ensures.does c.in-Got-r2.is, missed _ c.fetch-r3.ensures.does c.in_default-r3.is c.miss-in_default-r3.ensures)
-
-pub joined-requires : goal.joined-requires
-joined-requires c = ((byte_small _ c.in-Got.is c.fetch-r0.ensures.small).0, ((byte_small _ c.in-Got-r1.is c.fetch-r1.ensures.small).0, ((byte_small _ c.in-Got-r2.is c.fetch-r2.ensures.small).0, (byte_small _ c.in-Got-r3.is c.fetch-r3.ensures.small).0)))
+returns-in_err-b3 c = let p = err_from_is_err_and c.from_residual-in_err-b3.result c.from_residual-in_err-b3.ensures.1 in rw (p.1, p.2, got c.args.s.eip c.in_ok-b0.ensures.does, got c.args.s.eip c.in_ok-b1.ensures.does, got c.args.s.eip c.in_ok-b2.ensures.does, missed c.args.s.eip c.in_err-b3.ensures.does)
 
 pub returns : goal.returns
 unfolding fetch_dword
-returns c = rw (got _ c.fetch-r0.ensures.does c.in-Got.is, got _ c.fetch-r1.ensures.does c.in-Got-r1.is, got _ c.fetch-r2.ensures.does c.in-Got-r2.is, got _ c.fetch-r3.ensures.does c.in-Got-r3.is, c.joined.ensures)
+returns c = rw (got c.args.s.eip c.in_ok-b0.ensures.does, got c.args.s.eip c.in_ok-b1.ensures.does, got c.args.s.eip c.in_ok-b2.ensures.does, got c.args.s.eip c.in_ok-b3.ensures.does, c.joined.ensures)

@@ -1,14 +1,12 @@
 use Rattle.fetch.specs.Fetch.{fetch_signed}
-use Rattle.fetch.proofs.Laws.{got, missed, byte_small}
+use Rattle.fetch.proofs.Laws.{got, missed}
+use Rattle.std.proofs.lemmas.Result.{err_from_is_err_and}
 use Rattle.fetch.proofs.fetch_signed.Goals as goal
 
-pub returns-in_default : goal.returns-in_default
+pub returns-in_err-b : goal.returns-in_err-b
 unfolding fetch_signed
-returns-in_default c = rw (missed _ c.fetch-r0.ensures.does c.in_default.is c.miss.ensures)
-
-pub extend-requires : goal.extend-requires
-extend-requires c = (byte_small _ c.in-Got.is c.fetch-r0.ensures.small).0
+returns-in_err-b c = let p = err_from_is_err_and c.from_residual.result c.from_residual.ensures.1 in rw (p.1, p.2, missed c.args.s.eip c.in_err-b.ensures.does)
 
 pub returns : goal.returns
 unfolding fetch_signed
-returns c = rw (got _ c.fetch-r0.ensures.does c.in-Got.is, c.extend.ensures)
+returns c = rw (got c.args.s.eip c.in_ok-b.ensures.does, c.signed_byte.ensures)
