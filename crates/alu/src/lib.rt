@@ -8,7 +8,7 @@ ghost use Rattle.std.specs.Int.Bits.{bit_and, bit_or, bit_xor};
 ghost use Rattle.alu.specs.Arithmetic.{bit, parity, sum, difference, logic, operation, operate, writes, keep_carry, single, operate_one, signed_byte};
 
 // The six flags that arithmetic sets.
-#[derive(Clone, Copy)]
+#[derive(Clone, Copy, PartialEq, Eq)]
 pub struct Status {
     pub cf: bool,
     pub pf: bool,
@@ -18,7 +18,7 @@ pub struct Status {
     pub of: bool,
 }
 
-#[derive(Clone, Copy)]
+#[derive(Clone, Copy, PartialEq, Eq)]
 pub struct Out {
     pub value: u32,
     pub status: Status,
