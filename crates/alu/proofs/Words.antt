@@ -3,8 +3,7 @@
 use Prim.Native.Nat.{ℕ, ◌+◌, ◌-◌, ◌*◌, ◌/◌, ◌%◌, ◌^◌, ◌<◌, ◌≤◌}
 use native.Mathlib.Omega.{arith}
 use Rattle.std.proofs.Math.Nat.{mod-lt, mod-eq_of_lt, mod-add-div', mul_left_comm}
-use mathlib.Core.Path.{◌≡◌, refl, sym, ap, subst, ◌∙◌}
-use mathlib.Core.Logic.{inl, inr}
+use mathlib.Core.Path.{◌≡◌, refl, sym, ap, ◌∙◌}
 use Rattle.std.specs.Int.{from_bool}
 use mathlib.Core.Bool.{Bool, true, false, not, beq}
 use lib.Bits.{bit_xor, xor_lt}
@@ -13,14 +12,14 @@ use borrow.Author.Tests.{ltb-true, ltb-false}
 use Rattle.alu.proofs.Laws.{mod_once, add_of, sub_of}
 use Rattle.alu.proofs.Carries.{read_bit, read_out, add_af, sub_af, top_of_three}
 use Rattle.alu.specs.declared.brief.Brief.{Brief}
-use Rattle.alu.specs.Arithmetic.{bit, parity, is_zero, sign, sum, sum_value, sum_status, difference, difference_value, difference_status}
+use Rattle.alu.specs.Arithmetic.{bit, bits, parity, is_zero, sign, sum, sum_value, sum_status, difference, difference_value, difference_status}
 use Rattle.alu.specs.Brief.{carry_out, status_in, out_in}
-use Rattle.alu.specs.Word.{IsWidth, CarriesAlike, ShowsAlike}
+use Rattle.alu.specs.Word.{CarriesAlike, ShowsAlike}
 
 -- what holds of both widths
-pub at_widths : (P : ℕ → Type 0) → P 8 → P 32 → (w : ℕ) → IsWidth w → P w
-at_widths P p q w (inl e) = subst P (sym e) p
-at_widths P p q w (inr e) = subst P (sym e) q
+pub at_widths : (P : ℕ → Type 0) → P 8 → P 32 → (wide : Bool) → P (bits wide)
+at_widths P p q true = q
+at_widths P p q false = p
 
 pub bit_is : (c : Bool) → from_bool c ≡ bit c
 bit_is true = refl
@@ -89,16 +88,19 @@ module _ (w j q : ℕ) (ew : w - 1 ≡ j) (ep : 2 ^ w ≡ 2 ^ j + 2 ^ j) (eq : 2
       let top = top_of_three j a b r (rw (← ep) ha) (rw (← ep) hb) (mod-lt t (omega (arith, ep))) in
       e ∙ rw (ep, ew, af, top, sub_of H a b k (rw (← ep) ha) (rw (← ep) hb) hk)
 
-pub added : (w : ℕ) → IsWidth w → Added w
+pub added : (wide : Bool) → Added (bits wide)
 added = at_widths Added (added_by 8 7 8 refl refl refl) (added_by 32 31 134217728 refl refl refl)
 
-pub subtracted : (w : ℕ) → IsWidth w → Subtracted w
+pub subtracted : (wide : Bool) → Subtracted (bits wide)
 subtracted = at_widths Subtracted (subtracted_by 8 7 8 refl refl refl) (subtracted_by 32 31 134217728 refl refl refl)
 
-module _ {w : ℕ} (l : IsWidth w) (x y k : ℕ) (hx : x < 2 ^ w) (hy : y < 2 ^ w) (hk : k ≤ 1) where
+module _ (wide : Bool) (x y k : ℕ) (hx : x < 2 ^ bits wide) (hy : y < 2 ^ bits wide) (hk : k ≤ 1) where
+  abbrev w : ℕ
+  w = bits wide
+
   pub sum_in : (f : Brief) → f.out ≡ (x + y + k) / 2 ^ w → CarriesAlike w f.into (carries x y (sum_value w x y k)) → ShowsAlike w f.seen (sum_value w x y k)
       → out_in (record { value = sum_value w x y k; flags = f }) ≡ sum w x y k
-  sum_in f eo ec es i = record { value = sum_value w x y k; status = added w l x y k f hx hy hk eo ec es i }
+  sum_in f eo ec es i = record { value = sum_value w x y k; status = added wide x y k f hx hy hk eo ec es i }
 
   pub sum_carries : carries x y (sum_value w x y k) < 2 ^ w
   sum_carries = xor_lt w (bit_xor x y) _ (xor_lt w x y hx hy) (mod-lt (x + y + k) (omega (arith, hx)))
@@ -106,7 +108,7 @@ module _ {w : ℕ} (l : IsWidth w) (x y k : ℕ) (hx : x < 2 ^ w) (hy : y < 2 ^ 
   pub difference_in : (f : Brief) → f.out ≡ bit (ltb x (y + k)) → CarriesAlike w f.into (carries x y (difference_value w x y k))
       → ShowsAlike w f.seen (difference_value w x y k) → out_in (record { value = difference_value w x y k; flags = f }) ≡ difference w x y k
   difference_in f eo ec es i =
-      record { value = difference_value w x y k; status = subtracted w l x y k f hx hy hk (rw eo (read_bit (ltb x (y + k)))) ec es i }
+      record { value = difference_value w x y k; status = subtracted wide x y k f hx hy hk (rw eo (read_bit (ltb x (y + k)))) ec es i }
 
   pub difference_carries : carries x y (difference_value w x y k) < 2 ^ w
   difference_carries = xor_lt w (bit_xor x y) _ (xor_lt w x y hx hy) (mod-lt (2 ^ w + x - (y + k)) (omega (arith, hx)))

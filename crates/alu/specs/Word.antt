@@ -1,11 +1,7 @@
--- The two widths of an operand, and what a dword shows of one.
+-- What the operators do to an operand of either width, and what a dword shows of one.
 -- Assumes nothing.
-use Rattle.std.specs.Prelude.{ℕ, ◌≡◌, ◌⊎◌, ◌/◌, ◌%◌, eqb}
+use Rattle.std.specs.Prelude.{ℕ, ◌≡◌, ◌/◌, ◌%◌, eqb}
 use Rattle.alu.specs.Arithmetic.{parity, is_zero, sign}
-
--- a byte or a dword, by its places
-abbrev pub IsWidth : ℕ → Type 0
-IsWidth w = (w ≡ 8) ⊎ (w ≡ 32)
 
 -- an operator, by when it may be used and what it gives, does f to the numbers
 abbrev pub Computes : {A : Type 0} (number : A → ℕ) (can : A → A → Type 0) (gives : A → A → A → Type 0) (f : ℕ → ℕ → ℕ) → Type 0

@@ -1,6 +1,6 @@
 // Sums, differences and logic with their flags in brief, at 8 and 32 bits: where one operation follows the other, most flags are never asked for.
 ghost use Rattle.std.specs.Prelude.{◌≡◌, Bool, true, false, ◌+◌, ◌-◌, ◌*◌, ◌/◌, ◌%◌, ◌^◌, ◌<◌, ◌≤◌};
-ghost use Rattle.alu.specs.Arithmetic.{bit, sum, difference, logic, keep_carry};
+ghost use Rattle.alu.specs.Arithmetic.{bit, bits, sum, difference, logic, keep_carry};
 ghost use Rattle.alu.specs.Brief.{status_in, out_in, tellable, seeing};
 
 use crate::word::Word;
@@ -119,7 +119,7 @@ pub fn with_both(f: Brief, c: bool) -> Brief
 }
 
 pub fn add<W: Word>(a: W, b: W, c: bool) -> Short
-    ensures { out_in result ≡ sum W.places (W.number a) (W.number b) (bit c) }
+    ensures { out_in result ≡ sum (bits W.wide) (W.number a) (W.number b) (bit c) }
 {
     let (x, y) = (a.number(), b.number());
     let t = u64::from(x) + u64::from(y) + u64::from(c);
@@ -133,7 +133,7 @@ pub fn add<W: Word>(a: W, b: W, c: bool) -> Short
 }
 
 pub fn sub<W: Word>(a: W, b: W, c: bool) -> Short
-    ensures { out_in result ≡ difference W.places (W.number a) (W.number b) (bit c) }
+    ensures { out_in result ≡ difference (bits W.wide) (W.number a) (W.number b) (bit c) }
 {
     let (x, y) = (a.number(), b.number());
     let s = u64::from(y) + u64::from(c);
@@ -148,7 +148,7 @@ pub fn sub<W: Word>(a: W, b: W, c: bool) -> Short
 
 // AND, OR, XOR and TEST carry nothing into any place or out of the top one; f, the flags before, is there for the contract alone.
 pub fn logic<W: Word>(r: W, f: Brief) -> Short
-    ensures { out_in result ≡ logic W.places (status_in f) (W.number r) }
+    ensures { out_in result ≡ logic (bits W.wide) (status_in f) (W.number r) }
 {
     let x = r.number();
     let flags = Brief {

@@ -6,7 +6,7 @@ pub mod word;
 
 ghost use Rattle.std.specs.Prelude.{◌≡◌, Bool, true, false, ◌+◌, ◌-◌, ◌*◌, ◌/◌, ◌%◌, ◌^◌, ◌<◌, ◌≤◌};
 ghost use Rattle.std.specs.Int.Bits.{bit_and, bit_or, bit_xor};
-ghost use Rattle.alu.specs.Arithmetic.{bit, parity, sum, difference, logic, operation, operate, writes, keep_carry, single, operate_one, signed_byte};
+ghost use Rattle.alu.specs.Arithmetic.{bit, bits, parity, sum, difference, logic, operation, operate, writes, keep_carry, single, operate_one, signed_byte};
 
 use word::Word;
 
@@ -35,26 +35,26 @@ pub fn even(x: u32) -> bool
 }
 
 pub fn add<W: Word>(a: W, b: W, c: bool) -> Out
-    ensures { result ≡ sum W.places (W.number a) (W.number b) (bit c) }
+    ensures { result ≡ sum (bits W.wide) (W.number a) (W.number b) (bit c) }
 {
     brief::out_in(brief::add(a, b, c))
 }
 
 pub fn sub<W: Word>(a: W, b: W, c: bool) -> Out
-    ensures { result ≡ difference W.places (W.number a) (W.number b) (bit c) }
+    ensures { result ≡ difference (bits W.wide) (W.number a) (W.number b) (bit c) }
 {
     brief::out_in(brief::sub(a, b, c))
 }
 
 pub fn logic<W: Word>(r: W, s: Status) -> Out
-    ensures { result ≡ logic W.places s (W.number r) }
+    ensures { result ≡ logic (bits W.wide) s (W.number r) }
 {
     brief::out_in(brief::logic(r, brief::kept(s)))
 }
 
 #[tactic(auto, unfolding(crate::specs::Arithmetic::operation))]
 fn operate_at<W: Word>(op: u32, a: W, b: W, s: Status) -> Out
-    ensures { result ≡ operation op W.places (W.number a) (W.number b) s }
+    ensures { result ≡ operation op (bits W.wide) (W.number a) (W.number b) s }
 {
     match op {
         0 => add(a, b, false),
@@ -107,7 +107,7 @@ fn keep_carry(s: Status, o: Out) -> Out
 
 #[tactic(auto, unfolding(crate::specs::Arithmetic::single))]
 fn single_at<W: Word>(op: u32, a: W, s: Status) -> Out
-    ensures { result ≡ single op W.places (W.number a) s }
+    ensures { result ≡ single op (bits W.wide) (W.number a) s }
 {
     match op {
         0 => keep_carry(s, add(a, W::low(1), false)),

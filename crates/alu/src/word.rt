@@ -1,15 +1,14 @@
 // An operand of either width.
-ghost use mathlib.Core.Logic.{inl, inr};
-ghost use Rattle.std.specs.Prelude.{◌≡◌, refl, ℕ, ◌*◌, ◌%◌, ◌^◌, ◌<◌, bit_and, bit_or, bit_xor};
-ghost use Rattle.alu.specs.Arithmetic.{signed_byte};
-ghost use Rattle.alu.specs.Word.{IsWidth, Computes, CarriesAlike, ShowsAlike};
+ghost use Rattle.std.specs.Prelude.{◌≡◌, refl, ℕ, Bool, true, false, ◌*◌, ◌%◌, ◌^◌, ◌<◌, bit_and, bit_or, bit_xor};
+ghost use Rattle.alu.specs.Arithmetic.{bits, low, signed_byte};
+ghost use Rattle.alu.specs.Word.{Computes, CarriesAlike, ShowsAlike};
 
 use std::ops::{BitAnd, BitOr, BitXor};
 
 // A byte or a dword.
 pub trait Word: Copy + BitAnd<Output = Self> + BitOr<Output = Self> + BitXor<Output = Self> {
-    // The number of its bits.
-    ghost places: { ℕ };
+    // Is it a dword?
+    ghost wide: { Bool };
 
     ghost number: { Self → ℕ };
 
@@ -20,25 +19,23 @@ pub trait Word: Copy + BitAnd<Output = Self> + BitOr<Output = Self> + BitXor<Out
 
     // As a dword.
     fn number(self) -> u32
-        ensures { (result ≡ number self) × (result < 2 ^ places) };
+        ensures { (result ≡ number self) × (result < 2 ^ bits wide) };
 
     // The low part of x.
     fn low(x: u32) -> Self
-        ensures { number result ≡ x % 2 ^ places };
+        ensures { number result ≡ low wide x };
 
     // The carries into the places, with the one into the top place where a dword has it.
     fn carries(m: u32) -> u32
-        requires { m < 2 ^ places }
-        ensures { CarriesAlike places result m };
+        requires { m < 2 ^ bits wide }
+        ensures { CarriesAlike (bits wide) result m };
 
     // The dword that shows the number's flags.
     fn showing(r: u32) -> u32
-        requires { r < 2 ^ places }
-        ensures { ShowsAlike places result r };
+        requires { r < 2 ^ bits wide }
+        ensures { ShowsAlike (bits wide) result r };
 
-    ghost values: { VALUES ≡ 2 ^ places };
-
-    ghost width: { IsWidth places };
+    ghost values: { VALUES ≡ 2 ^ bits wide };
 
     ghost ands: { Computes number Self.BitAnd.can_bitand Self.BitAnd.bitand_gives bit_and };
 
@@ -48,15 +45,13 @@ pub trait Word: Copy + BitAnd<Output = Self> + BitOr<Output = Self> + BitXor<Out
 }
 
 impl Word for u32 {
-    ghost places = { 32 };
+    ghost wide = { true };
 
     ghost number = { λ x. x };
 
     ghost VALUES = { 0x1_0000_0000 };
 
     ghost values = { refl };
-
-    ghost width = { inr refl };
 
     ghost ands = { λ a b. (tt, λ r e. e) };
 
@@ -84,15 +79,13 @@ impl Word for u32 {
 }
 
 impl Word for u8 {
-    ghost places = { 8 };
+    ghost wide = { false };
 
     ghost number = { λ x. x };
 
     ghost VALUES = { 256 };
 
     ghost values = { refl };
-
-    ghost width = { inl refl };
 
     ghost ands = { λ a b. (tt, λ r e. e) };
 
