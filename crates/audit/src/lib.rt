@@ -1,7 +1,7 @@
 // The audit: do the maps keep the user away from the directory and the tables?
 #![tactic(auto)]
 
-ghost use Rattle.std.specs.Prelude.{◌≡◌, true, false, ◌+◌, ◌*◌, ◌/◌, ◌%◌, ◌<◌, ◌≤◌, length, get_or, set};
+ghost use Rattle.std.specs.Prelude.{◌≡◌, true, false, ◌+◌, ◌*◌, ◌/◌, ◌%◌, ◌<◌, ◌≤◌, length};
 ghost use Rattle.std.proofs.Math.Option.{none};
 ghost use Rattle.machine.specs.Paging.{dword_at, slot, dir_frame};
 ghost use Rattle.machine.specs.Audit.{first, in_memory, outside, exposed, tables, audit};
@@ -31,28 +31,12 @@ fn stray(mem: &[u8], c: Control) -> Option<u32>
     (0..1024).find(|d| strays(mem, c, *d))
 }
 
-// The flag of a frame: false past the end.
-fn flag(held: &[bool], f: u32) -> bool
-    ensures { result ≡ get_or held.now f false }
-{
-    held.get(f as usize).copied().unwrap_or(false)
-}
-
-fn raise(held: &mut [bool], f: u32)
-    ensures { held.new ≡ set held.old f true }
-{
-    let i = f as usize;
-    if i < held.len() {
-        held[i] = true;
-    }
-}
-
 // The table that a present entry names gets its flag, whoever may use it.
 fn raise_table(held: &mut [bool], e: u32)
     ensures { held.new ≡ with_table held.old e }
 {
     if e % 2 == 1 {
-        raise(held, e / 4096);
+        cells::put(held, e as usize / 4096, true);
     }
 }
 
@@ -61,7 +45,7 @@ fn raise_all(mem: &[u8], c: Control, held: &mut [bool])
     requires { Clear held.old }
     ensures { Flags mem.now c 1024 held.new }
 {
-    raise(held, c.cr3 / 4096);
+    cells::put(held, c.cr3 as usize / 4096, true);
     for d in 0..1024 {
         raise_table(held, paging::entry(mem, c.cr3 / 4096, d));
     }
@@ -74,7 +58,7 @@ fn opens_at(mem: &[u8], c: Control, held: &[bool], p: u32, e: u32) -> bool
     ensures { result ≡ exposed mem.now c p }
 {
     let x = paging::entry(mem, e / 4096, p % 1024);
-    (x % 8 == 7) & flag(held, x / 4096)
+    (x % 8 == 7) & cells::get(held, x as usize / 4096, false)
 }
 
 // The lowest page so far that opens a held frame, where there is none before entry d of the directory.
