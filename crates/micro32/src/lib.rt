@@ -56,10 +56,10 @@ fn run_on(c: Cpu, mem: &mut [u8], t: &[u8; 512], g: &mut [u64; 4096], budget: u3
 {
     let mut n: u32 = 0;
     let mut d = c;
+    // Stays: a turn takes as many steps as there are quick ones, and no `for` counts so.
     while n < budget {
         let w = swift::dash(d, mem, t, g, budget - n);
-        let here = w.cpu;
-        d = here;
+        d = w.cpu;
         n += w.count;
         if budget <= n {
             return Ran {
@@ -69,13 +69,11 @@ fn run_on(c: Cpu, mem: &mut [u8], t: &[u8; 512], g: &mut [u64; 4096], budget: u3
             };
         }
         let s = phases::advance(d, mem, t);
-        let k = s.reply;
-        let e = s.cpu;
-        d = e;
-        let Reply::Done = k else {
+        d = s.cpu;
+        let Reply::Done = s.reply else {
             return Ran {
                 count: n,
-                reply: k,
+                reply: s.reply,
                 cpu: d,
             };
         };
@@ -130,18 +128,17 @@ fn run_answered(c: Cpu, mem: &mut [u8], budget: u32) -> Advanced
     ensures { record { answer = result.answer; cpu = result.cpu; mem = mem.new } ≡ ran_answered (run micro32 budget mem.old c) }
 {
     let r = run(c, mem, budget);
-    let q = r.reply;
-    let d = r.cpu;
-    let a = answer_of(q, r.count);
-    Advanced { cpu: d, answer: a }
+    Advanced {
+        cpu: r.cpu,
+        answer: answer_of(r.reply, r.count),
+    }
 }
 
 // The run for a host: the record is lent, and is advanced in place.
 pub fn micro32_run(cpu: &mut Cpu, mem: &mut [u8], budget: u32) -> Answer
     ensures { record { answer = result; cpu = cpu.new; mem = mem.new } ≡ ran_answered (run micro32 budget mem.old cpu.old) }
 {
-    let c = *cpu;
-    let w = run_answered(c, mem, budget);
+    let w = run_answered(*cpu, mem, budget);
     *cpu = w.cpu;
     w.answer
 }
@@ -150,6 +147,5 @@ pub fn micro32_run(cpu: &mut Cpu, mem: &mut [u8], budget: u32) -> Answer
 pub fn micro32_audit(cpu: Cpu, mem: &[u8]) -> Answer
     ensures { result ≡ answer_of (audit mem.now cpu) 0 }
 {
-    let q = audit(cpu, mem);
-    answer_of(q, 0)
+    answer_of(audit(cpu, mem), 0)
 }
