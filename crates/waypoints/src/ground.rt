@@ -2,7 +2,7 @@
 use crate::place;
 use crate::place::{Plan, position};
 use machine::Control;
-use paging::{Linear, Translated};
+use paging::Linear;
 
 // The bytes of a waypoint.
 const SIZE: u32 = 16;
@@ -14,11 +14,10 @@ pub fn seed(mem: &[u8], p: Plan, ground: &mut [u8]) {
 
 // Puts the byte that the guest itself could read there in place i of a row. False where it could not.
 fn fetch_byte(mem: &[u8], c: Control, linear: u32, row: &mut [u8], i: usize) -> bool {
-    let t = paging::translate(mem, c, false, Linear(linear));
-    let Translated::Reached(p, _) = t else {
+    let Ok(t) = paging::translate(mem, c, false, Linear(linear)) else {
         return false;
     };
-    cells::put_byte(row, i, cells::byte(mem, p.index()));
+    cells::put_byte(row, i, cells::byte(mem, t.place.index()));
     true
 }
 
