@@ -3,7 +3,7 @@ use crate::place;
 use crate::place::{Plan, SIZE, position};
 use given::Axis;
 use machine::Control;
-use paging::{Linear, Translated};
+use paging::Linear;
 
 // The ground begins with the plan as it was last sent.
 pub fn seed(mem: &[u8], p: Plan, ground: &mut [u8]) {
@@ -12,11 +12,10 @@ pub fn seed(mem: &[u8], p: Plan, ground: &mut [u8]) {
 
 // The byte that the guest itself could read there, if it could.
 fn fetch_byte(mem: &[u8], c: Control, linear: u32) -> Option<u8> {
-    let t = paging::translate(mem, c, false, Linear(linear));
-    let Translated::Reached(p, _) = t else {
+    let Ok(t) = paging::translate(mem, c, false, Linear(linear)) else {
         return None;
     };
-    Some(cells::get(mem, p.index(), 0))
+    Some(cells::get(mem, t.place.index(), 0))
 }
 
 fn fetch(mem: &[u8], c: Control, linear: u32) -> Option<[u8; 16]> {
