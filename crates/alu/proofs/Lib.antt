@@ -2,4 +2,4 @@ pub mod Laws
 pub mod Carries
 pub mod Showing
 pub mod Operations
-mod Words
+pub mod Words

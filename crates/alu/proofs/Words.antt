@@ -2,7 +2,7 @@
 -- Assumes nothing.
 use Prim.Native.Nat.{ℕ, ◌+◌, ◌-◌, ◌*◌, ◌/◌, ◌%◌, ◌^◌, ◌<◌, ◌≤◌}
 use native.Mathlib.Omega.{arith}
-use Rattle.std.proofs.Math.Nat.{mod-lt, mod-eq_of_lt, mod-add-div', mul_left_comm}
+use Rattle.std.proofs.Math.Nat.{mod-lt, mod-mod, mod-eq_of_lt, mod-add-div', mul_left_comm}
 use mathlib.Core.Path.{◌≡◌, refl, sym, ap, ◌∙◌}
 use Rattle.std.specs.Int.{from_bool}
 use mathlib.Core.Bool.{Bool, true, false, not, beq}
@@ -12,7 +12,7 @@ use borrow.Author.Tests.{ltb-true, ltb-false}
 use Rattle.alu.proofs.Laws.{mod_once, add_of, sub_of}
 use Rattle.alu.proofs.Carries.{read_bit, read_out, add_af, sub_af, top_of_three}
 use Rattle.alu.specs.declared.brief.Brief.{Brief}
-use Rattle.alu.specs.Arithmetic.{bit, bits, parity, is_zero, sign, sum, sum_value, sum_status, difference, difference_value, difference_status}
+use Rattle.alu.specs.Arithmetic.{bit, bits, low, parity, is_zero, sign, sum, sum_value, sum_status, difference, difference_value, difference_status}
 use Rattle.alu.specs.Brief.{carry_out, status_in, out_in}
 use Rattle.alu.specs.Word.{CarriesAlike, ShowsAlike}
 
@@ -20,6 +20,13 @@ use Rattle.alu.specs.Word.{CarriesAlike, ShowsAlike}
 pub at_widths : (P : ℕ → Type 0) → P 8 → P 32 → (wide : Bool) → P (bits wide)
 at_widths P p q true = q
 at_widths P p q false = p
+
+-- the number of a word is its own low part
+pub low_number : (wide : Bool) {n x : ℕ} → (n ≡ x) × (n < 2 ^ bits wide) → low wide x ≡ x
+low_number wide h = rw (← h.0) (mod-eq_of_lt h.1)
+
+pub low_low : (wide : Bool) (x : ℕ) → low wide (low wide x) ≡ low wide x
+low_low wide x = mod-mod x (2 ^ bits wide)
 
 pub bit_is : (c : Bool) → from_bool c ≡ bit c
 bit_is true = refl
