@@ -33,7 +33,7 @@ fn plan(c: Cpu, mem: &[u8], t: &[u8; 512]) -> Result<Planned, Reply>
     ensures { PlanOk mem.now c result }
 {
     let k = c.control;
-    let core = machine::core_of(c);
+    let core = Core::from(c);
     let i = decode::decode(mem, k, t, c.eip)?;
     if !execute::permitted(i, c.eflags / 4096 % 4, k.ring) {
         return Err(Reply::Fault(13, 0, 0));
@@ -58,14 +58,16 @@ fn plan(c: Cpu, mem: &[u8], t: &[u8; 512]) -> Result<Planned, Reply>
 fn leave(mem: &mut [u8], p: Planned)
     ensures { mem.new ≡ left p mem.old }
 {
-    let a = p.first;
-    let b = p.second;
-    let s = a.trail;
-    let u = b.trail;
-    access::mark_trail(mem, s, a.write);
-    access::mark_trail(mem, u, b.write);
-    access::store(mem, a, p.value);
-    access::store(mem, b, p.value);
+    let Planned {
+        first,
+        second,
+        value,
+        ..
+    } = p;
+    access::mark_trail(mem, first.trail, first.write);
+    access::mark_trail(mem, second.trail, second.write);
+    access::store(mem, first, value);
+    access::store(mem, second, value);
 }
 
 // One step, by a table of classes that the caller lends.

@@ -120,7 +120,7 @@ fn rest_of(eip: u32, s: Status) -> Rest
 fn joined(c: Cpu, e: [u32; 8], r: Rest) -> Cpu
     ensures { result ≡ current c e r }
 {
-    let u = machine::unpack(c.eflags);
+    let u = Flags::from(c.eflags);
     let f = r.flags;
     let status = alu::brief::status_in(f);
     let flags = Flags {
@@ -170,7 +170,7 @@ pub fn dash(c: Cpu, mem: &mut [u8], t: &[u8; 512], g: &mut [u64; 4096], limit: u
     requires { (length mem.old % 4096 ≡ 0) × ((Classed t.now) × (Known g.old)) }
     ensures { (result.count ≤ limit) × ((DashOk mem.old c result.count mem.new result.cpu) × (Known g.new)) }
 {
-    let u = machine::unpack(c.eflags);
+    let u = Flags::from(c.eflags);
     let s = u.status;
     if !alu::brief::is_tellable(s) {
         return Dashed { count: 0, cpu: c };
