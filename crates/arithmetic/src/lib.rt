@@ -8,7 +8,7 @@ use alu::Out;
 use encoding::Instruction;
 use machine::{Core, Registers, Reply};
 use operands::Effect;
-use products::{Product, Quotient};
+use products::Product;
 
 // The result is put into the operand.
 fn deposited(i: Instruction, k: Core, o: Out) -> Effect
@@ -122,14 +122,12 @@ fn multiply(i: Instruction, k: Core, x: u32) -> Effect
 fn divide(i: Instruction, k: Core, x: u32) -> Effect
     ensures { result ≡ do_divide i k x }
 {
-    let r = k.regs;
-    let high = r.read_at(i.wide, upper(i.wide));
-    let low = r.read_at(i.wide, 0);
-    let q = products::divide(i.operation == 7, i.wide, high, low, x);
-    let Quotient::Divided(whole, rest) = q else {
+    let high = k.regs.read_at(i.wide, upper(i.wide));
+    let low = k.regs.read_at(i.wide, 0);
+    let Some(d) = products::divide(i.operation == 7, i.wide, high, low, x) else {
         return operands::refused(k, Reply::Fault(0, 0, 0));
     };
-    operands::onward(i, k, pair(i.wide, r, whole, rest))
+    operands::onward(i, k, pair(i.wide, k.regs, d.quotient, d.remainder))
 }
 
 pub fn accumulate(i: Instruction, k: Core, a: u32) -> Effect
