@@ -1,4 +1,7 @@
 // A reply by its number and its name, and the numbers that it carries.
+ghost use Rattle.std.specs.Prelude.{◌≡◌};
+ghost use Rattle.machine.specs.Replies.{numbered};
+
 use machine::Reply;
 use std::io::Write;
 use std::{fmt, io};
@@ -26,7 +29,10 @@ impl fmt::Display for Short {
     }
 }
 
-pub fn number(q: Reply) -> u32 {
+#[tactic(auto, unfolding(machine::specs::Replies::numbered))]
+pub fn number(q: Reply) -> u32
+    ensures { result ≡ (numbered q).number }
+{
     match q {
         Reply::Done => 0,
         Reply::Fault(_, _, _) => 1,
