@@ -1,7 +1,7 @@
 -- One fetch, case by case, and from an answer to what the rule gives.
 -- Assumes nothing.
-use Rattle.std.proofs.Common.{◌≡◌, ℕ, ◌+◌, ◌%◌, ◌<◌, ◌≤◌, false, [], ◌∷◌, ◌++◌, sym, refl, add-one, arith, le-ltb, lt-ltb}
-use Rattle.std.specs.Prelude.{Option, Some, Ok, Err}
+use Rattle.std.proofs.Common.{◌≡◌, ℕ, ◌+◌, ◌%◌, ◌<◌, ◌≤◌, false, [], ◌∷◌, ◌++◌, length, sym, refl, add-one, arith, le-ltb, lt-ltb}
+use Rattle.std.specs.Prelude.{Ok, Err}
 use Rattle.machine.specs.Record.{Mem, at, wrap}
 use Rattle.machine.specs.declared.Control.{Control}
 use Rattle.machine.specs.declared.Reply.{Reply}
@@ -11,9 +11,8 @@ use Rattle.machine.specs.Act.{Res, ok, refuse, byte, counted, touch, fetch}
 use Rattle.access.specs.Located.{span}
 use Rattle.paging.specs.declared.Physical.{Physical}
 use Rattle.paging.proofs.Pages.{same_page}
-use Rattle.fetch.specs.declared.Code.{Code}
 use Rattle.fetch.specs.declared.Fetched.{Fetched}
-use Rattle.fetch.specs.Read.{log_at, got_of, StartOk, CodeOk, FetchOk}
+use Rattle.fetch.specs.Read.{log_at, got_of, FetchOk}
 
 -- ---- one fetch
 
@@ -34,15 +33,12 @@ module _ (m : Mem) (c : Control) (eip n : ℕ) where
   unfolding fetch counted byte view
   fetch_at p b h e f k = record { does = rw (lt-ltb n 15 h, e, f, span_more eip n); small = (k, refl) }
 
--- on the page of eip, which was reached
-near : (m : Mem) (c : Control) (eip : ℕ) {s : Option Physical} {p : Physical} → s ≡ Some p → StartOk m c eip s → translate m c false eip ≡ At p.0
-near m c eip e h = rw e at h
-
-pub fetch_near : (m : Mem) (c : Control) (s : Code) (n : ℕ) (p : Physical) (b : ℕ) → CodeOk m c s → s.eip < 4294967296 → n < 15 → s.eip % 4096 + n < 4096 → s.start ≡ Some p
-    → b ≡ at m (p.0 + n) → b < 256 → FetchOk m c s.eip n (Ok (record { value = b; length = n + 1 }))
-fetch_near m c s n p b code small h fits e f k =
-    let w : s.eip + n ≡ wrap (s.eip + n) = omega arith in
-    fetch_at m c s.eip n (p.0 + n) b h (rw (← w) (same_page m code.size c false s.eip n p.0 fits (near m c s.eip e code.reached))) f k
+-- on the page of eip, which was reached at p
+pub fetch_near : (m : Mem) (c : Control) (eip n : ℕ) (p : Physical) (b : ℕ) → length m % 4096 ≡ 0 → translate m c false eip ≡ At p.0 → eip < 4294967296 → n < 15 → eip % 4096 + n < 4096
+    → b ≡ at m (p.0 + n) → b < 256 → FetchOk m c eip n (Ok (record { value = b; length = n + 1 }))
+fetch_near m c eip n p b size there small h fits f k =
+    let w : eip + n ≡ wrap (eip + n) = omega arith in
+    fetch_at m c eip n (p.0 + n) b h (rw (← w) (same_page m size c false eip n p.0 fits there)) f k
 
 -- ---- from an answer to what the rule gives
 

@@ -1,14 +1,12 @@
 -- What the answers of the fetching functions mean: with n bytes fetched from eip and nothing else done so far.
 -- Assumes nothing.
-use Rattle.std.specs.Prelude.{◌≡◌, ℕ, ◌+◌, ◌%◌, ◌<◌, false, [], length, Option, Some, None, Result, Ok, Err}
+use Rattle.std.specs.Prelude.{◌≡◌, ℕ, ◌+◌, ◌<◌, false, [], Result, Ok, Err}
 use Rattle.machine.specs.Record.{Mem}
 use Rattle.machine.specs.declared.Control.{Control}
 use Rattle.machine.specs.declared.Reply.{Reply}
-use Rattle.machine.specs.Paging.{At, translate, view}
+use Rattle.machine.specs.Paging.{view}
 use Rattle.machine.specs.Act.{Log, Res, ok, refuse, fetch}
 use Rattle.access.specs.Located.{span}
-use Rattle.paging.specs.declared.Physical.{Physical}
-use Rattle.fetch.specs.declared.Code.{Code}
 use Rattle.fetch.specs.declared.Fetched.{Fetched}
 
 abbrev pub log_at : ℕ → ℕ → Log
@@ -17,14 +15,6 @@ log_at eip n = record { fetched = n; touches = span false eip n; stores = [] }
 abbrev pub got_of : ℕ → Result Fetched Reply → Res ℕ
 got_of eip (Ok b) = ok b.value (log_at eip b.length)
 got_of eip (Err q) = refuse q
-
-abbrev pub StartOk : Mem → Control → ℕ → Option Physical → Type 0
-StartOk m c eip (Some p) = translate m c false eip ≡ At p.0
-StartOk m c eip None = Unit {0}
-
-pub record CodeOk (m : Mem) (c : Control) (s : Code) : Type 0 where
-  pub size : length m % 4096 ≡ 0
-  pub reached : StartOk m c s.eip s.start
 
 -- a byte, and one more fetched
 abbrev pub byte_in : ℕ → Result Fetched Reply → Type 0

@@ -11,7 +11,7 @@ use Rattle.decode.proofs.prefixed.Goals as goal
 pub returns-in_err-byte : goal.returns-in_err-byte
 returns-in_err-byte c =
     let p = err_from_is_err_and c.from_residual.result c.from_residual.ensures.1 in
-    rw (p.1, p.2) (record { does = sym (c.loop-n.invariant ∙ override_miss _ _ _ _ _ c.loop-n-test.true (missed c.args.s.eip c.in_err-byte.ensures.does)); small = tt })
+    rw (p.1, p.2) (record { does = sym (c.loop-n.invariant ∙ override_miss _ _ _ _ _ c.loop-n-test.true (missed c.args.s.now.eip c.in_err-byte.ensures.does)); small = tt })
 
 pub returns-then-class_in-ne-OVERRIDE : goal.returns-then-class_in-ne-OVERRIDE
 returns-then-class_in-ne-OVERRIDE c = record {
