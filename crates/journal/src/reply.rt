@@ -29,6 +29,7 @@ impl fmt::Display for Short {
     }
 }
 
+// Stays: the number is what a script reads, and the definition of the replies gives it.
 #[tactic(auto, unfolding(machine::specs::Replies::numbered))]
 pub fn number(q: Reply) -> u32
     ensures { result ≡ (numbered q).number }
