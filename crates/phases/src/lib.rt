@@ -58,14 +58,10 @@ fn plan(c: Cpu, mem: &[u8], t: &[u8; 512]) -> Result<Planned, Reply>
 fn leave(mem: &mut [u8], p: Planned)
     ensures { mem.new ≡ left p mem.old }
 {
-    let a = p.first;
-    let b = p.second;
-    let s = a.trail;
-    let u = b.trail;
-    access::mark_trail(mem, s, a.write);
-    access::mark_trail(mem, u, b.write);
-    access::store(mem, a, p.value);
-    access::store(mem, b, p.value);
+    access::mark_trail(mem, p.first.trail, p.first.write);
+    access::mark_trail(mem, p.second.trail, p.second.write);
+    access::store(mem, p.first, p.value);
+    access::store(mem, p.second, p.value);
 }
 
 // One step, by a table of classes that the caller lends.
