@@ -12,7 +12,7 @@ pub struct Short(pub Reply);
 
 impl fmt::Display for Short {
     fn fmt<W: fmt::Write>(&self, f: &mut fmt::Formatter<W>) -> fmt::Result {
-        let n = number(self.0);
+        let n = self.0.number();
         match self.0 {
             Reply::Done => write!(f, "{n} Done"),
             Reply::Fault(vector, _, _) => write!(f, "{n} Fault {vector}"),
@@ -29,29 +29,15 @@ impl fmt::Display for Short {
     }
 }
 
-// Stays: the number is what a script reads, and the definition of the replies gives it.
-#[tactic(auto, unfolding(machine::specs::Replies::numbered))]
 pub fn number(q: Reply) -> u32
     ensures { result ≡ (numbered q).number }
 {
-    match q {
-        Reply::Done => 0,
-        Reply::Fault(_, _, _) => 1,
-        Reply::Trap(_, _) => 2,
-        Reply::Halt(_) => 3,
-        Reply::BadRecord => 4,
-        Reply::NoMemory(_) => 5,
-        Reply::NotBuilt(_) => 6,
-        Reply::Spent => 7,
-        Reply::Safe => 8,
-        Reply::TableOutside(_) => 9,
-        Reply::Exposed(_) => 10,
-    }
+    q.number()
 }
 
 // `key=number`, and a line `key.name=value` for each value that the reply carries.
 pub fn reply_lines<W: Write>(out: &mut W, key: &str, q: Reply) -> io::Result<()> {
-    let n = number(q);
+    let n = q.number();
     writeln!(out, "{key}={n}")?;
     match q {
         Reply::Fault(vector, code, at) => {

@@ -58,16 +58,10 @@ fn plan(c: Cpu, mem: &[u8], t: &[u8; 512]) -> Result<Planned, Reply>
 fn leave(mem: &mut [u8], p: Planned)
     ensures { mem.new ≡ left p mem.old }
 {
-    let Planned {
-        first,
-        second,
-        value,
-        ..
-    } = p;
-    access::mark_trail(mem, first.trail, first.write);
-    access::mark_trail(mem, second.trail, second.write);
-    access::store(mem, first, value);
-    access::store(mem, second, value);
+    access::mark_trail(mem, p.first.trail, p.first.write);
+    access::mark_trail(mem, p.second.trail, p.second.write);
+    access::store(mem, p.first, p.value);
+    access::store(mem, p.second, p.value);
 }
 
 // One step, by a table of classes that the caller lends.
