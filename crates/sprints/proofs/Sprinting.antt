@@ -14,13 +14,11 @@ use Rattle.machine.specs.Record.{Mem}
 use Rattle.machine.specs.Run.{End, steps}
 use Rattle.keptpages.specs.declared.Kept.{Kept}
 use Rattle.blocks.specs.Blocks.{Keyed, Known}
-use Rattle.hops.specs.declared.Ending.{Ending}
 use Rattle.hops.specs.declared.Ending.TheVariants as ends
 use Rattle.hops.specs.declared.Rest.{Rest}
 use Rattle.phases.specs.Step.{micro32}
-use Rattle.hops.specs.Hops.{moves, keeps, PagesOk, current, after, RushOk}
+use Rattle.hops.specs.Hops.{keeps, PagesOk, current, after, RushOk}
 use Rattle.hops.proofs.Rushing.{rush_begun, split_test}
-use Rattle.shortcut.proofs.Small.{or_left, or_right}
 use Rattle.sprints.specs.declared.Traced.{Traced}
 use Rattle.sprints.specs.Sprints.{Before, TracedOk}
 

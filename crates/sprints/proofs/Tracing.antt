@@ -7,7 +7,7 @@ use mathlib.Core.List.{List}
 use native.Mathlib.Omega.{arith}
 use lib.ListN.{length, get_or}
 use Rattle.machine.specs.declared.Control.{Control}
-use Rattle.machine.specs.Record.{Mem, at, wrap}
+use Rattle.machine.specs.Record.{Mem, wrap}
 use Rattle.keptpages.specs.declared.Kept.{Kept}
 use Rattle.keptpages.specs.Quiet.{Agree}
 use Rattle.forms.specs.declared.Form.{Form}

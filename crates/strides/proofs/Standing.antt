@@ -12,7 +12,6 @@ use Rattle.forms.specs.declared.Form.{Form}
 use Rattle.forms.specs.Forms.{reg, meant}
 use Rattle.hops.specs.declared.Rest.{Rest}
 use Rattle.hops.proofs.Swiftly.{unmoved}
-use Rattle.hops.specs.declared.Ending.{Ending}
 use Rattle.hops.specs.declared.Ending.TheVariants as ends
 use Rattle.hops.specs.declared.Swift.{Swift}
 use Rattle.strides.specs.Strides.{Stands, Here, EndedOk}

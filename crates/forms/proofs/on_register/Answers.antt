@@ -1,4 +1,4 @@
-use Rattle.forms.proofs.Reading.{none_read, read_places, read_place, read_times, read_double}
+use Rattle.forms.proofs.Reading.{read_places, read_place, read_times, read_double}
 use borrow.Author.Rules.{rules}
 use mathlib.Core.Path.{refl, ◌∙◌}
 use Rattle.forms.proofs.on_register.Goals as goal
@@ -14,6 +14,3 @@ returns-then-b-eq105 c = read_times (c.args.mem.now) (c.args.i) (c.args.b) (c.ar
 
 pub returns-then-b-g : goal.returns-then-b-g
 returns-then-b-g c = read_double (c.args.mem.now) (c.args.i) (c.args.b) (c.args.m) (c.requires.1.0) (c.requires.1.1.0) (c.requires.1.1.1.0) c.if-b-g.true
-
-pub returns : goal.returns
-returns c = none_read (c.args.mem.now) (c.args.i) _ c.nothing.ensures

@@ -1,8 +1,7 @@
 use native.Mathlib.Omega.{arith}
-use borrow.Author.Tests.{not-false}
 use borrow.Author.Rules.{rules}
 use mathlib.Core.Path.{refl, sym, ◌∙◌}
-use Prim.Native.Nat.{◌<◌, ◌-◌}
+use Prim.Native.Nat.{◌<◌}
 use Rattle.sprints.proofs.Sprinting.{off, paused, room, ready, on, done, goes_on}
 use Rattle.sprints.proofs.sprint.Goals as goal
 

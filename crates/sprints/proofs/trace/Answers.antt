@@ -1,6 +1,5 @@
 use native.Mathlib.Omega.{arith}
 use borrow.Author.Rules.{rules}
-use borrow.Author.Tests.{not-false, not-true}
 use mathlib.Core.Path.{◌≡◌, refl, sym, ◌∙◌}
 use Rattle.sprints.proofs.Tracing.{few_here, begun, stands, here, follows, stopped, left, through}
 use Rattle.sprints.proofs.trace.Goals as goal

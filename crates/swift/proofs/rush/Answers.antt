@@ -1,10 +1,8 @@
 use native.Mathlib.Omega.{arith}
-use borrow.Author.Tests.{not-false, not-true}
 use borrow.Author.Rules.{rules}
 use mathlib.Core.Bool.{false≢true}
 use mathlib.Core.Path.{refl, sym, ap, ◌∙◌}
-use Prim.Native.Nat.{◌+◌, ◌-◌, ◌/◌, ◌%◌}
-use Rattle.shortcut.proofs.Small.{other}
+use Prim.Native.Nat.{◌+◌, ◌%◌}
 use Rattle.swift.proofs.Hurrying.{two_tests}
 use Rattle.sprints.proofs.Sprinting.{rush_joined}
 use Rattle.hops.proofs.Rushing.{rush_begun, rush_on, rush_ended}

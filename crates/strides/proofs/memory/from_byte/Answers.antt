@@ -1,6 +1,5 @@
 use Rattle.strides.proofs.Reaching.{byte_there, byte_loaded, byte_compared}
 use Rattle.strides.proofs.Standing.{stays}
-use borrow.Author.Tests.{not-false}
 use Rattle.strides.proofs.memory.from_byte.Goals as goal
 
 pub returns-in_default : goal.returns-in_default

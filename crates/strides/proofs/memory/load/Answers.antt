@@ -1,7 +1,6 @@
 use Rattle.std.proofs.Common.{◌<◌, rules}
 use Rattle.strides.proofs.Reaching.{dword_there, loaded}
 use Rattle.strides.proofs.Standing.{stays}
-use borrow.Author.Tests.{not-false}
 use Rattle.strides.proofs.memory.load.Goals as goal
 
 pub returns-in_default : goal.returns-in_default

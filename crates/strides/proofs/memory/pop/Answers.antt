@@ -1,7 +1,6 @@
 use Rattle.std.proofs.Common.{refl, ◌<◌, rules}
 use Rattle.strides.proofs.Reaching.{dword_there, popped_to, returned}
 use Rattle.strides.proofs.Standing.{stays}
-use borrow.Author.Tests.{not-false}
 use Rattle.strides.proofs.memory.pop.Goals as goal
 
 pub returns-in_default : goal.returns-in_default

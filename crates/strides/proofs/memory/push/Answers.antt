@@ -1,5 +1,4 @@
 use Rattle.std.proofs.Common.{refl, ◌<◌, arith}
-use borrow.Author.Tests.{not-false}
 use Rattle.strides.proofs.Reaching.{dword_there, pushed_to}
 use Rattle.strides.proofs.Standing.{stays}
 use Rattle.strides.proofs.memory.push.Goals as goal

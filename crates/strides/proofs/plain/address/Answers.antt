@@ -1,4 +1,4 @@
-use Rattle.std.proofs.Common.{refl, ℕ, ◌+◌, ◌<◌, ap, ◌∙◌, arith, rules}
+use Rattle.std.proofs.Common.{ℕ, ◌+◌, ap, arith}
 use Rattle.machine.specs.Record.{wrap}
 use Rattle.alu.specs.Brief.{status_in}
 use Rattle.strides.proofs.Working.{moves, an_address}
