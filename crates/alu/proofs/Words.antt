@@ -12,7 +12,7 @@ use borrow.Author.Tests.{ltb-true, ltb-false}
 use Rattle.alu.proofs.Laws.{mod_once, add_of, sub_of}
 use Rattle.alu.proofs.Carries.{read_bit, read_out, add_af, sub_af, top_of_three}
 use Rattle.alu.specs.declared.brief.Brief.{Brief}
-use Rattle.alu.specs.Arithmetic.{bit, bits, low, parity, is_zero, sign, sum, sum_value, sum_status, difference, difference_value, difference_status}
+use Rattle.alu.specs.Arithmetic.{bit, bits, top, low, parity, is_zero, sign, sum, sum_value, sum_status, difference, difference_value, difference_status}
 use Rattle.alu.specs.Brief.{carry_out, status_in, out_in}
 use Rattle.alu.specs.Word.{CarriesAlike, ShowsAlike}
 
@@ -21,12 +21,26 @@ pub at_widths : (P : ℕ → Type 0) → P 8 → P 32 → (wide : Bool) → P (b
 at_widths P p q true = q
 at_widths P p q false = p
 
+-- ---- the weight of the top bit
+
+pub half : (wide : Bool) → 2 ^ bits wide / 2 ≡ top (bits wide)
+half true = refl
+half false = refl
+
+pub tops : (wide : Bool) → top (bits wide) + top (bits wide) ≡ 2 ^ bits wide
+tops true = refl
+tops false = refl
+
+-- ---- low parts
+
 -- the number of a word is its own low part
 pub low_number : (wide : Bool) {n x : ℕ} → (n ≡ x) × (n < 2 ^ bits wide) → low wide x ≡ x
 low_number wide h = rw (← h.0) (mod-eq_of_lt h.1)
 
 pub low_low : (wide : Bool) (x : ℕ) → low wide (low wide x) ≡ low wide x
 low_low wide x = mod-mod x (2 ^ bits wide)
+
+-- ---- flags
 
 pub bit_is : (c : Bool) → from_bool c ≡ bit c
 bit_is true = refl

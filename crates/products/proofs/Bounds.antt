@@ -1,5 +1,5 @@
 -- The number of a sign and a magnitude over the weight t of the top bit, and low parts. Assumes nothing.
-use Prim.Native.Nat.{ℕ, ◌+◌, ◌-◌, ◌*◌, ◌/◌, ◌%◌, ◌^◌, ◌<◌}
+use Prim.Native.Nat.{ℕ, ◌+◌, ◌-◌, ◌*◌, ◌%◌, ◌^◌, ◌<◌}
 use native.Mathlib.Nat.{mod_self, zero-mod}
 use native.Mathlib.Omega.{arith}
 use mathlib.Core.Path.{◌≡◌, refl, sym, ap, ◌∙◌}
@@ -15,14 +15,6 @@ number_zero t true = let e : t + t - 0 ≡ t + t = omega arith in sym (ap (λ (k
 number_zero t false = sym (zero-mod (t + t))
 
 -- ---- the weights of the top bits, at either width
-
-pub half : (wide : Bool) → 2 ^ bits wide / 2 ≡ top (bits wide)
-half true = refl
-half false = refl
-
-pub tops : (wide : Bool) → top (bits wide) + top (bits wide) ≡ 2 ^ bits wide
-tops true = refl
-tops false = refl
 
 pub square : (wide : Bool) → top (bits wide) * 2 ^ bits wide ≡ top (bits wide + bits wide)
 square true = refl

@@ -1,6 +1,7 @@
+use Rattle.alu.proofs.Words.{half, tops}
 use borrow.Author.Tests.{ne_eqb}
 use mathlib.Core.Path.{sym, ◌∙◌}
-use Rattle.products.proofs.Bounds.{half, tops, square, squares}
+use Rattle.products.proofs.Bounds.{square, squares}
 use Rattle.products.proofs.idiv.Goals as goal
 
 pub returns-then-not-in_range : goal.returns-then-not-in_range

@@ -1,6 +1,6 @@
-use Rattle.alu.proofs.Words.{low_number}
+use Rattle.alu.proofs.Words.{half, tops, low_number}
 use mathlib.Core.Path.{◌∙◌}
-use Rattle.products.proofs.Bounds.{half, tops, square, squares}
+use Rattle.products.proofs.Bounds.{square, squares}
 use Rattle.products.specs.Products.{product}
 use Rattle.products.proofs.imul.Goals as goal
 
