@@ -16,7 +16,7 @@ pub returns-in_err-second : goal.returns-in_err-second
 returns-in_err-second c = let p = err_from_is_err_and c.from_residual-in_err-second.result c.from_residual-in_err-second.ensures.1 in rw (p.1, p.2) (at_second c.args.mem.now c.args.c c.in_ok-i.ensures (sym c.if-not-permitted.ensures) c.first.ensures c.in_ok-first.ensures c.second.ensures c.in_err-second.ensures)
 
 pub returns-then-not-is_done : goal.returns-then-not-is_done
-returns-then-not-is_done c = at_idle c.args.mem.now c.args.c c.in_ok-i.ensures (sym c.if-not-permitted.ensures) c.first.ensures c.in_ok-first.ensures c.second.ensures c.in_ok-second.ensures c.compute-e.result c.core_of-core.ensures c.compute-e.ensures (sym c.if-not-is_done.ensures)
+returns-then-not-is_done c = at_idle c.args.mem.now c.args.c c.in_ok-i.ensures (sym c.if-not-permitted.ensures) c.first.ensures c.in_ok-first.ensures c.second.ensures c.in_ok-second.ensures c.compute-e.result c.from-core.ensures c.compute-e.ensures (sym c.if-not-is_done.ensures)
 
 pub returns : goal.returns
-returns c = at_ready c.args.mem.now c.args.c c.in_ok-i.ensures (sym c.if-not-permitted.ensures) c.first.ensures c.in_ok-first.ensures c.second.ensures c.in_ok-second.ensures c.compute-e.result c.core_of-core.ensures c.compute-e.ensures (sym c.if-not-is_done.ensures)
+returns c = at_ready c.args.mem.now c.args.c c.in_ok-i.ensures (sym c.if-not-permitted.ensures) c.first.ensures c.in_ok-first.ensures c.second.ensures c.in_ok-second.ensures c.compute-e.result c.from-core.ensures c.compute-e.ensures (sym c.if-not-is_done.ensures)
