@@ -2,11 +2,11 @@
 -- Assumes nothing.
 use Prim.Native.Nat.{ℕ, ◌+◌, ◌%◌, ◌<◌, ◌≤◌}
 use mathlib.Core.Path.{◌≡◌, refl, ap, ◌∙◌}
-use mathlib.Core.Bool.{Bool, true, false, cond, ◌&&◌, false≢true}
+use mathlib.Core.Bool.{Bool, true, false, cond}
 use mathlib.Core.List.{List}
 use native.Mathlib.Omega.{arith}
-use borrow.Author.Tests.{ltb-true, leb-true, leb-false, lt-ltb, le-ltb}
-use lib.Dec.{ltb, leb}
+use borrow.Author.Tests.{leb-true, leb-false, lt-ltb, le-ltb}
+use lib.Dec.{leb}
 use lib.ListN.{length, get_or, set}
 use Rattle.machine.specs.Record.{Mem}
 use Rattle.forms.specs.declared.Form.{Form}
@@ -68,11 +68,3 @@ built_on m i s g j off x c f b h z l o r e ec =
 -- the block as it is
 pub built_done : {m : Mem} {i s : ℕ} {g : List ℕ} {j off : ℕ} → Built m i s g j off → (Known g) × (Keyed m i g s)
 built_done {m} {i} {s} {g} b = (b.known, keyed_whole m i g s b.written)
-
--- the code's test
-pub going : (j off : ℕ) → (ltb j 23 && leb off 48) ≡ true → (j < 23) × (off ≤ 48)
-going j off h = by (ltb j 23) refl
-  where
-    by : (z : Bool) → ltb j 23 ≡ z → (j < 23) × (off ≤ 48)
-    by true e = (ltb-true _ _ e, leb-true _ _ (rw e at h))
-    by false e = absurd (false≢true (rw e at h))

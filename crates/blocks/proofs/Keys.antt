@@ -2,28 +2,29 @@
 -- Assumes nothing.
 use Prim.Native.Nat.{ℕ, zero, suc, ◌+◌, ◌-◌, ◌*◌, ◌/◌, ◌%◌, ◌<◌, ◌≤◌}
 use mathlib.Core.Path.{◌≡◌, refl, sym, ap, ◌∙◌}
-use mathlib.Core.Bool.{Bool, true, false, cond}
+use mathlib.Core.Bool.{Bool, true, false, cond, false≢true}
 use mathlib.Core.List.{List}
 use native.Mathlib.Omega.{arith}
 use borrow.Author.Tests.{ltb-true, ltb-false, lt-ltb}
 use lib.Dec.{ltb}
 use lib.ListN.{get_or}
+use Rattle.std.specs.Bool.{MatchBool}
+use Rattle.std.specs.List.{AllWithin, HoldsAt, range_with_len}
 use Rattle.machine.specs.Record.{Mem, at}
 use Rattle.machine.specs.Paging.{Byte}
 use Rattle.forms.specs.declared.Form.{Form}
 use Rattle.forms.specs.Forms.{FormOk}
 use Rattle.blocks.specs.Blocks.{Digits, asked, Written, Keyed}
 
-pub written : (m : Mem) (i : ℕ) (g : List ℕ) (s w0 w1 w2 w3 : ℕ) → Digits m i w0 → Digits m (i + 8) w1 → Digits m (i + 16) w2 → Digits m (i + 24) w3
-    → get_or g s 0 ≡ w0 → get_or g (s + 1) 0 ≡ w1 → get_or g (s + 2) 0 ≡ w2 → get_or g (s + 3) 0 ≡ w3 → Written m i g s 4
-written m i g s w0 w1 w2 w3 d0 d1 d2 d3 e0 e1 e2 e3 = by
-  where
-    by : Written m i g s 4
-    by zero h = let z : i + 0 ≡ i = omega arith in let z' : s + 0 ≡ s = omega arith in rw (z, z', e0) d0
-    by (suc zero) h = rw e1 d1
-    by (suc (suc zero)) h = rw e2 d2
-    by (suc (suc (suc zero))) h = rw e3 d3
-    by (suc (suc (suc (suc k)))) h = absurd (omega arith)
+-- where each of four numbers has its bytes there
+pub written : (m : Mem) (i : ℕ) (g : List ℕ) (s : ℕ) (r : Bool)
+    → MatchBool r (AllWithin (λ k. Digits m (i + 8 * k) (get_or g (s + k) 0)) (range_with_len 0 4) 0 4) ((k : ℕ) × (k < 4) × HoldsAt (λ k. Unit {0}) (range_with_len 0 4) k) → r ≡ true → Written m i g s 4
+written m i g s true w e zero h = w 0 0 (omega arith) h
+written m i g s true w e (suc zero) h = w 1 0 (omega arith) h
+written m i g s true w e (suc (suc zero)) h = w 2 0 (omega arith) h
+written m i g s true w e (suc (suc (suc zero))) h = w 3 0 (omega arith) h
+written m i g s true w e (suc (suc (suc (suc k)))) h = absurd (omega arith)
+written m i g s false w e k h = absurd (false≢true e)
 
 -- ---- how many numbers are asked for
 

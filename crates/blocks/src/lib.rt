@@ -14,17 +14,16 @@ fn word(mem: &[u8], i: usize) -> u64
     requires { i + 7 < length mem.now }
     ensures { Digits mem.now i result }
 {
-    let b0 = shortcut::bytes::byte(mem, i);
-    let b1 = shortcut::bytes::byte(mem, i + 1);
-    let b2 = shortcut::bytes::byte(mem, i + 2);
-    let b3 = shortcut::bytes::byte(mem, i + 3);
-    let b4 = shortcut::bytes::byte(mem, i + 4);
-    let b5 = shortcut::bytes::byte(mem, i + 5);
-    let b6 = shortcut::bytes::byte(mem, i + 6);
-    let b7 = shortcut::bytes::byte(mem, i + 7);
-    let low = b0 + 256 * b1 + 65536 * b2 + 16777216 * b3;
-    let high = b4 + 256 * b5 + 65536 * b6 + 16777216 * b7;
-    low as u64 + 4294967296 * high as u64
+    u64::from_le_bytes([
+        mem[i],
+        mem[i + 1],
+        mem[i + 2],
+        mem[i + 3],
+        mem[i + 4],
+        mem[i + 5],
+        mem[i + 6],
+        mem[i + 7],
+    ])
 }
 
 fn pack(f: Form) -> u64
@@ -56,16 +55,7 @@ fn four(mem: &[u8], g: &[u64; 4096], s: usize, i: usize) -> bool
     requires { (i + 32 ≤ length mem.now) × (s + 4 ≤ 4096) }
     ensures { result ≡ true → Written mem.now i g.now s 4 }
 {
-    if g[s] != word(mem, i) {
-        return false;
-    }
-    if g[s + 1] != word(mem, i + 8) {
-        return false;
-    }
-    if g[s + 2] != word(mem, i + 16) {
-        return false;
-    }
-    g[s + 3] == word(mem, i + 24)
+    (0..4).all(|k| g[s + k] == word(mem, i + 8 * k))
 }
 
 // Does memory have the block's bytes at i?
@@ -90,10 +80,8 @@ fn begin(mem: &[u8], g: &mut [u64; 4096], s: usize, i: usize)
     // As a slice, for the proof: there are 4096.
     let whole = &g[..];
     g[s + 8] = 0;
-    let mut k: usize = 0;
-    while k < 8 {
+    for k in 0..8 {
         g[s + k] = word(mem, i + 8 * k);
-        k += 1;
     }
 }
 
@@ -127,16 +115,16 @@ fn build(mem: &[u8], t: &[u8; 512], g: &mut [u64; 4096], s: usize, i: usize)
     begin(mem, g, s, i);
     // As a slice, for the proof: there are 4096.
     let whole = &g[..];
-    let mut j: usize = 0;
     let mut off: usize = 0;
-    while (j < 23) & (off <= 48) {
-        let f = forms::read(mem, t, i + off);
-        if f.kind == 127 {
+    for j in 0..23 {
+        if 48 < off {
             return;
         }
+        let Some(f) = forms::read(mem, t, i + off) else {
+            return;
+        };
         g[s + 9 + j] = pack(f);
         g[s + 8] = count(j, off);
-        j += 1;
         off += f.length as usize;
         if is_last(f) {
             return;

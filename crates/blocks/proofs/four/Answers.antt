@@ -1,16 +1,14 @@
-use borrow.Author.Tests.{eqb-true}
-use mathlib.Core.Bool.{false≢true}
+use Prim.Native.Nat.{◌+◌, ◌*◌}
+use lib.ListN.{get_or}
+use Rattle.std.proofs.Common.{refl, rules, tests, arith}
+use Rattle.std.proofs.lemmas.Iterator.{cases_from_all, YieldsList-from_range}
+use Rattle.blocks.specs.Blocks.{Digits}
 use Rattle.blocks.proofs.Keys.{written}
 use Rattle.blocks.proofs.four.Goals as goal
 
-pub returns-then-g-s : goal.returns-then-g-s
-returns-then-g-s c = λ e. absurd (false≢true e)
-
-pub returns-then-g-s-2 : goal.returns-then-g-s-2
-returns-then-g-s-2 c = λ e. absurd (false≢true e)
-
-pub returns-then-g-s-3 : goal.returns-then-g-s-3
-returns-then-g-s-3 c = λ e. absurd (false≢true e)
-
 pub returns : goal.returns
-returns c = λ e. written (c.args.mem.now) (c.args.i) (c.args.g.now) (c.args.s) _ _ _ _ (c.word.ensures) (c.word-2.ensures) (c.word-3.ensures) (c.word-4.ensures) (c.if-g-s.false) (c.if-g-s-2.false) (c.if-g-s-3.false) (eqb-true _ _ e)
+returns c =
+    let a = c.args in
+    written a.mem.now a.i a.g.now a.s c.all.result
+    (cases_from_all _ _ _ (λ k. Digits a.mem.now (a.i + 8 * k) (get_or a.g.now (a.s + k) 0)) (λ _. Unit {0}) c.all.ensures.ran (YieldsList-from_range 0 4 4 refl refl)
+    (λ x q k. (search rules, λ l h. grind (arith, tests))) (λ x q k. tt))

@@ -1,6 +1,8 @@
+use Prim.Native.Nat.{ℕ, ◌<◌}
+use native.Mathlib.Omega.{arith}
+use lib.ListN.{get_or}
 use Rattle.blocks.proofs.Numbers.{digits}
-use borrow.Author.Rules.{rules}
 use Rattle.blocks.proofs.word.Goals as goal
 
 pub returns : goal.returns
-returns c = digits (c.args.mem.now) (c.args.i) _ _ _ _ _ _ _ _ _ (c.byte-b0.ensures) (c.byte-b1.ensures) (c.byte-b2.ensures) (c.byte-b3.ensures) (c.byte-b4.ensures) (c.byte-b5.ensures) (c.byte-b6.ensures) (c.byte-b7.ensures) (search rules)
+returns c = let small : (n : ℕ) → get_or c.args.mem.now n 0 < 256 = λ n. omega (arith, c.type_inv.mem n) in digits c.args.mem.now c.args.i _ small c.from_le_bytes.ensures
