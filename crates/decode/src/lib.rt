@@ -8,7 +8,7 @@ ghost use Rattle.fetch.specs.Read.{log_at, CodeOk};
 ghost use Rattle.decode.specs.Decode.{scale_of, index_of, displacement_bytes, displaced, after_sib, after_modrm, finish, with_modrm, with_offset, classed, decode};
 ghost use Rattle.decode.specs.Read.{PrefixOk, OpcodeOk, formed_of, spoilt_of, ready_of};
 
-use encoding::{Instruction, Operand};
+use encoding::{Class, Instruction, Operand};
 use fetch::{Code, Fetched};
 use machine::{Control, Reply};
 
@@ -44,8 +44,9 @@ fn prefixed(mem: &[u8], c: Control, t: &[u8; 512], s: Code) -> Fetched
         let Fetched::Got(b, k) = r0 else {
             return Fetched::Miss(fetch::miss(r0));
         };
-        if encoding::class_in(t, b) != encoding::OVERRIDE {
-            return Fetched::Got(b, k);
+        match encoding::class_in(t, b) {
+            Class::Override => {}
+            _ => return Fetched::Got(b, k),
         }
         n += 1;
     }
@@ -61,8 +62,9 @@ fn opcode(mem: &[u8], c: Control, t: &[u8; 512], s: Code) -> Fetched
     let Fetched::Got(b, n) = r0 else {
         return Fetched::Miss(fetch::miss(r0));
     };
-    if encoding::class_in(t, b) != encoding::ESCAPE {
-        return Fetched::Got(b, n);
+    match encoding::class_in(t, b) {
+        Class::Escape => {}
+        _ => return Fetched::Got(b, n),
     }
     let r1 = fetch::fetch(mem, c, s, n);
     let Fetched::Got(d, k) = r1 else {
@@ -184,7 +186,7 @@ fn after_modrm(mem: &[u8], c: Control, s: Code, n: u32, b: u32) -> Formed
 }
 
 // The immediate, and the whole instruction.
-fn finish(mem: &[u8], k: Control, s: Code, n: u32, c: u32, b: u32, reg: u32, o: Operand) -> Decoded
+fn finish(mem: &[u8], k: Control, s: Code, n: u32, c: Class, b: u32, reg: u32, o: Operand) -> Decoded
     requires { CodeOk mem.now k s }
     ensures { ready_of s.eip result ≡ finish s.eip c b reg o (view mem.now k) (log_at s.eip n) }
 {
@@ -207,7 +209,7 @@ fn finish(mem: &[u8], k: Control, s: Code, n: u32, c: u32, b: u32, reg: u32, o: 
     })
 }
 
-fn with_modrm(mem: &[u8], k: Control, s: Code, n: u32, c: u32, b: u32) -> Decoded
+fn with_modrm(mem: &[u8], k: Control, s: Code, n: u32, c: Class, b: u32) -> Decoded
     requires { CodeOk mem.now k s }
     ensures { ready_of s.eip result ≡ with_modrm s.eip c b (view mem.now k) (log_at s.eip n) }
 {
@@ -229,7 +231,7 @@ fn with_modrm(mem: &[u8], k: Control, s: Code, n: u32, c: u32, b: u32) -> Decode
 }
 
 // A0 to A3: the address stands in the instruction.
-fn with_offset(mem: &[u8], k: Control, s: Code, n: u32, c: u32, b: u32) -> Decoded
+fn with_offset(mem: &[u8], k: Control, s: Code, n: u32, c: Class, b: u32) -> Decoded
     requires { CodeOk mem.now k s }
     ensures { ready_of s.eip result ≡ with_offset s.eip c b (view mem.now k) (log_at s.eip n) }
 {
@@ -248,15 +250,14 @@ fn with_offset(mem: &[u8], k: Control, s: Code, n: u32, c: u32, b: u32) -> Decod
     finish(mem, k, s, j, c, b, 0, o)
 }
 
-fn classed(mem: &[u8], k: Control, s: Code, n: u32, c: u32, b: u32) -> Decoded
+fn classed(mem: &[u8], k: Control, s: Code, n: u32, c: Class, b: u32) -> Decoded
     requires { CodeOk mem.now k s }
     ensures { ready_of s.eip result ≡ classed s.eip c b (view mem.now k) (log_at s.eip n) }
 {
-    if c == encoding::NOT_BUILT {
-        return Decoded::Unready(Reply::NotBuilt(s.eip));
-    }
-    if c == encoding::UNDEFINED {
-        return Decoded::Unready(Reply::Fault(6, 0, 0));
+    match c {
+        Class::NotBuilt => return Decoded::Unready(Reply::NotBuilt(s.eip)),
+        Class::Undefined => return Decoded::Unready(Reply::Fault(6, 0, 0)),
+        _ => {}
     }
     if encoding::has_modrm(c) {
         return with_modrm(mem, k, s, n, c, b);

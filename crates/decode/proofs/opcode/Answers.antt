@@ -1,7 +1,6 @@
 use Rattle.fetch.proofs.Laws.{got, missed, byte_small}
 use Rattle.decode.specs.Decode.{opcode, escaped}
-use Rattle.decode.proofs.Laws.{got_below}
-use borrow.Author.Tests.{eq-eqb, ne_eqb}
+use Rattle.decode.proofs.Laws.{got_below, no_escape}
 use native.Mathlib.Omega.{arith}
 use Rattle.decode.proofs.opcode.Goals as goal
 
@@ -12,17 +11,17 @@ returns-in_default c = record { does = rw (missed _ c.prefixed-r0.ensures.does c
 pub class_in-requires : goal.class_in-requires
 class_in-requires c = (c.requires.1, (let s = got_below 256 c.in-Got.is c.prefixed-r0.ensures.small in omega (arith, s)))
 
-pub returns-then-class_in-ne-ESCAPE : goal.returns-then-class_in-ne-ESCAPE
+pub returns-in_default-class_in : goal.returns-in_default-class_in
 unfolding opcode escaped
-returns-then-class_in-ne-ESCAPE c = record { does = rw (got _ c.prefixed-r0.ensures.does c.in-Got.is, ← c.class_in.ensures, ne_eqb _ _ c.if-class_in-ne-ESCAPE.true); small = let s = got_below 256 c.in-Got.is c.prefixed-r0.ensures.small in omega (arith, s) }
+returns-in_default-class_in c = record { does = rw (got _ c.prefixed-r0.ensures.does c.in-Got.is, ← c.class_in.ensures, no_escape _ c.in_default-class_in.not-Escape); small = let s = got_below 256 c.in-Got.is c.prefixed-r0.ensures.small in omega (arith, s) }
 
 pub returns-in_default-r1 : goal.returns-in_default-r1
 unfolding opcode escaped
-returns-in_default-r1 c = record { does = rw (got _ c.prefixed-r0.ensures.does c.in-Got.is, ← c.class_in.ensures, eq-eqb _ _ c.if-class_in-ne-ESCAPE.false, missed _ c.fetch-r1.ensures.does c.in_default-r1.is c.miss-in_default-r1.ensures); small = tt }
+returns-in_default-r1 c = record { does = rw (got _ c.prefixed-r0.ensures.does c.in-Got.is, ← c.class_in.ensures, c.in-Escape.is, missed _ c.fetch-r1.ensures.does c.in_default-r1.is c.miss-in_default-r1.ensures); small = tt }
 
 pub overflow_add-result : goal.overflow_add-result
 overflow_add-result c = let s = byte_small _ c.in-Got-r1.is c.fetch-r1.ensures.small in omega (arith, s.0)
 
 pub returns : goal.returns
 unfolding opcode escaped
-returns c = record { does = rw (got _ c.prefixed-r0.ensures.does c.in-Got.is, ← c.class_in.ensures, eq-eqb _ _ c.if-class_in-ne-ESCAPE.false, got _ c.fetch-r1.ensures.does c.in-Got-r1.is); small = let s = byte_small _ c.in-Got-r1.is c.fetch-r1.ensures.small in omega (arith, s.0) }
+returns c = record { does = rw (got _ c.prefixed-r0.ensures.does c.in-Got.is, ← c.class_in.ensures, c.in-Escape.is, got _ c.fetch-r1.ensures.does c.in-Got-r1.is); small = let s = byte_small _ c.in-Got-r1.is c.fetch-r1.ensures.small in omega (arith, s.0) }
