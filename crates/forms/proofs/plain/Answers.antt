@@ -2,35 +2,38 @@ use Rattle.forms.proofs.Reading.{none_read, read_accumulator, read_test_number, 
 use borrow.Author.Rules.{rules}
 use Rattle.forms.proofs.plain.Goals as goal
 
-pub returns-then-c-b : goal.returns-then-c-b
-returns-then-c-b c = none_read (c.args.mem.now) (c.args.i) _ c.nothing.ensures
+pub returns-then-b-eq0 : goal.returns-then-b-eq0
+returns-then-b-eq0 c = none_read (c.args.mem.now) (c.args.i) _ c.nothing.ensures
 
-pub returns-then-c-b-2 : goal.returns-then-c-b-2
-returns-then-c-b-2 c = none_read (c.args.mem.now) (c.args.i) _ c.nothing-then-c-b-2.ensures
+pub returns-then-b-eq0-2 : goal.returns-then-b-eq0-2
+returns-then-b-eq0-2 c = none_read (c.args.mem.now) (c.args.i) _ c.nothing-then-b-eq0-2.ensures
 
-pub returns-in-6 : goal.returns-in-6
-returns-in-6 c = read_accumulator (c.args.mem.now) (c.args.i) (c.args.b) (c.args.m) (c.requires.1.0) (c.requires.1.1.0) _ (c.args.c) (c.requires.1.1.1.1.1) _ (search rules) c.in-6.is c.if-c-b.false c.dword.ensures c.with_number.ensures
+pub returns-then-b-eq0-3 : goal.returns-then-b-eq0-3
+returns-then-b-eq0-3 c = none_read (c.args.mem.now) (c.args.i) _ c.nothing-then-b-eq0-3.ensures
 
-pub returns-in-9 : goal.returns-in-9
-returns-in-9 c = read_test_number (c.args.mem.now) (c.args.i) (c.args.b) (c.args.m) (c.requires.1.0) (c.requires.1.1.0) _ (c.args.c) (c.requires.1.1.1.1.1) _ (search rules) c.in-9.is c.if-c-b.false c.dword-in-9.ensures c.with_number-in-9.ensures
+pub returns-else-b-eq0 : goal.returns-else-b-eq0
+returns-else-b-eq0 c = read_accumulator (c.args.mem.now) (c.args.i) (c.args.b) (c.args.m) (c.requires.1.0) (c.requires.1.1.0) _ (c.args.c) (c.requires.1.1.1.1.1) _ (search rules) c.in-ArithmeticAccumulator.is c.if-b-eq0.false c.dword.ensures c.with_number.ensures
 
-pub returns-in-15 : goal.returns-in-15
-returns-in-15 c = read_load_number (c.args.mem.now) (c.args.i) (c.args.b) (c.args.m) (c.requires.1.0) (c.requires.1.1.0) _ (c.args.c) (c.requires.1.1.1.1.1) _ (search rules) c.in-15.is c.if-c-b-2.false c.dword-in-15.ensures c.with_number-in-15.ensures
+pub returns-else-b-eq0-2 : goal.returns-else-b-eq0-2
+returns-else-b-eq0-2 c = read_test_number (c.args.mem.now) (c.args.i) (c.args.b) (c.args.m) (c.requires.1.0) (c.requires.1.1.0) _ (c.args.c) (c.requires.1.1.1.1.1) _ (search rules) c.in-TestAccumulator.is c.if-b-eq0-2.false c.dword-in-TestAccumulator.ensures c.with_number-in-TestAccumulator.ensures
 
-pub returns-in-22 : goal.returns-in-22
-returns-in-22 c = read_inc (c.args.mem.now) (c.args.i) (c.args.b) (c.args.m) (c.requires.1.0) (c.requires.1.1.0) _ (c.args.c) (c.requires.1.1.1.1.1) c.in-22.is c.with_number-in-22.ensures
+pub returns-else-b-eq0-3 : goal.returns-else-b-eq0-3
+returns-else-b-eq0-3 c = read_load_number (c.args.mem.now) (c.args.i) (c.args.b) (c.args.m) (c.requires.1.0) (c.requires.1.1.0) _ (c.args.c) (c.requires.1.1.1.1.1) _ (search rules) c.in-MoveRegister.is c.if-b-eq0-3.false c.dword-in-MoveRegister.ensures c.with_number-in-MoveRegister.ensures
 
-pub returns-in-23 : goal.returns-in-23
-returns-in-23 c = read_dec (c.args.mem.now) (c.args.i) (c.args.b) (c.args.m) (c.requires.1.0) (c.requires.1.1.0) _ (c.args.c) (c.requires.1.1.1.1.1) c.in-23.is c.with_number-in-23.ensures
+pub returns-in-IncrementRegister : goal.returns-in-IncrementRegister
+returns-in-IncrementRegister c = read_inc (c.args.mem.now) (c.args.i) (c.args.b) (c.args.m) (c.requires.1.0) (c.requires.1.1.0) _ (c.args.c) (c.requires.1.1.1.1.1) c.in-IncrementRegister.is c.with_number-in-IncrementRegister.ensures
 
-pub returns-in-26 : goal.returns-in-26
-returns-in-26 c = read_push (c.args.mem.now) (c.args.i) (c.args.b) (c.args.m) (c.requires.1.0) (c.requires.1.1.0) _ (c.args.c) (c.requires.1.1.1.1.1) c.in-26.is c.with_number-in-26.ensures
+pub returns-in-DecrementRegister : goal.returns-in-DecrementRegister
+returns-in-DecrementRegister c = read_dec (c.args.mem.now) (c.args.i) (c.args.b) (c.args.m) (c.requires.1.0) (c.requires.1.1.0) _ (c.args.c) (c.requires.1.1.1.1.1) c.in-DecrementRegister.is c.with_number-in-DecrementRegister.ensures
 
-pub returns-in-28 : goal.returns-in-28
-returns-in-28 c = read_pop (c.args.mem.now) (c.args.i) (c.args.b) (c.args.m) (c.requires.1.0) (c.requires.1.1.0) _ (c.args.c) (c.requires.1.1.1.1.1) c.in-28.is c.with_number-in-28.ensures
+pub returns-in-PushRegister : goal.returns-in-PushRegister
+returns-in-PushRegister c = read_push (c.args.mem.now) (c.args.i) (c.args.b) (c.args.m) (c.requires.1.0) (c.requires.1.1.0) _ (c.args.c) (c.requires.1.1.1.1.1) c.in-PushRegister.is c.with_number-in-PushRegister.ensures
 
-pub returns-in-36 : goal.returns-in-36
-returns-in-36 c = read_jump (c.args.mem.now) (c.args.i) (c.args.b) (c.args.m) (c.requires.1.0) (c.requires.1.1.0) _ (c.args.c) (c.requires.1.1.1.1.1) _ (search rules) c.in-36.is (c.requires.1.1.1.1.0) c.extend.ensures c.with_number-in-36.ensures
+pub returns-in-PopRegister : goal.returns-in-PopRegister
+returns-in-PopRegister c = read_pop (c.args.mem.now) (c.args.i) (c.args.b) (c.args.m) (c.requires.1.0) (c.requires.1.1.0) _ (c.args.c) (c.requires.1.1.1.1.1) c.in-PopRegister.is c.with_number-in-PopRegister.ensures
 
-pub returns-in-41 : goal.returns-in-41
-returns-in-41 c = read_return (c.args.mem.now) (c.args.i) (c.args.b) (c.args.m) (c.requires.1.0) (c.requires.1.1.0) _ (c.args.c) (c.requires.1.1.1.1.1) c.in-41.is c.with_number-in-41.ensures
+pub returns-in-JumpIf : goal.returns-in-JumpIf
+returns-in-JumpIf c = read_jump (c.args.mem.now) (c.args.i) (c.args.b) (c.args.m) (c.requires.1.0) (c.requires.1.1.0) _ (c.args.c) (c.requires.1.1.1.1.1) _ (search rules) c.in-JumpIf.is (c.requires.1.1.1.1.0) c.extend.ensures c.with_number-in-JumpIf.ensures
+
+pub returns-in-ReturnPlain : goal.returns-in-ReturnPlain
+returns-in-ReturnPlain c = read_return (c.args.mem.now) (c.args.i) (c.args.b) (c.args.m) (c.requires.1.0) (c.requires.1.1.0) _ (c.args.c) (c.requires.1.1.1.1.1) c.in-ReturnPlain.is c.with_number-in-ReturnPlain.ensures
