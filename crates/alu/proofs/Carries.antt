@@ -6,7 +6,7 @@ use mathlib.Core.Path.{◌≡◌, refl, sym, ◌∙◌}
 use mathlib.Core.Bool.{Bool, true, false, not, beq}
 use lib.Dec.{ltb, leb, eqb}
 use lib.Bits.{bit_xor, bit_and, xor_shr, xor_add_and, xor_lt, xor_mod}
-use borrow.Author.Tests.{leb-true, leb-false, eqb-true, eqb-false, le-leb, lt-leb}
+use borrow.Author.Tests.{leb-true, leb-false, eqb-true, eqb-false, lt-leb}
 use Rattle.alu.specs.Arithmetic.{bit}
 use Rattle.alu.proofs.Laws.{into_top, leb_same, bit_le}
 
@@ -92,27 +92,6 @@ sub_af a b c r q hc h =
 
     odd : (x y z d q : ℕ) → z + y + d ≡ x + 2 * q → (x + y + z) % 2 ≡ d % 2
     odd x y z d q h = omega arith
-
--- ---- a byte's carries, twice in a dword: at their places, and at the top
-
-pub byte_place : (m : ℕ) → m % 256 * 16777217 / 16 % 2 ≡ m / 16 % 2
-byte_place m = rw (apart (m % 256)) (even (m % 256 / 16) (m % 256)) ∙ low m
-  where
-    apart : (n : ℕ) → n * 16777217 / 16 ≡ n / 16 + n * 1048576
-    apart n = omega arith
-
-    even : (x n : ℕ) → (x + n * 1048576) % 2 ≡ x % 2
-    even x n = omega arith
-
-    low : (m : ℕ) → m % 256 / 16 % 2 ≡ m / 16 % 2
-    low m = omega arith
-
-pub byte_top : (m : ℕ) → m < 256 → leb 2147483648 (m % 256 * 16777217) ≡ leb 128 m
-byte_top m h = by (leb 128 m) refl
-  where
-    by : (v : Bool) → leb 128 m ≡ v → leb 2147483648 (m % 256 * 16777217) ≡ leb 128 m
-    by true e = rw e (le-leb 2147483648 (m % 256 * 16777217) (omega (arith, leb-true)))
-    by false e = rw e (lt-leb 2147483648 (m % 256 * 16777217) (omega (arith, leb-false)))
 
 -- ---- without the top place
 

@@ -13,7 +13,7 @@ bit_le true = omega arith
 bit_le false = omega arith
 
 -- t modulo m, where t is below 2 m
-mod_once : (m t : ℕ) → m ≤ t → t < m + m → t % m ≡ t - m
+pub mod_once : (m t : ℕ) → m ≤ t → t < m + m → t % m ≡ t - m
 mod_once m t h k = mod-eq-sub-mod h ∙ mod-eq_of_lt (omega arith)
 
 -- a signed number lifted by H, as the top bit says

@@ -2,3 +2,4 @@ pub mod Laws
 pub mod Carries
 pub mod Showing
 pub mod Operations
+pub mod Words

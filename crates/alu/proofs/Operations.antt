@@ -5,10 +5,9 @@ use mathlib.Core.Logic.{◌≢◌}
 use native.Mathlib.Nat.{mod-eq_of_lt}
 use mathlib.Core.Path.{◌≡◌, refl}
 use mathlib.Core.Bool.{true}
-use lib.ListN.{get_or-eq_default}
 use Rattle.alu.specs.declared.Status.{Status}
 use Rattle.alu.specs.declared.Out.{Out}
-use Rattle.alu.specs.Arithmetic.{results, operation, moved, difference, keep_carry, single, low}
+use Rattle.alu.specs.Arithmetic.{keep_carry, low}
 
 -- what is none of the nine numbers is above them
 pub no_number : (op : ℕ) → ((((((((Unit {0} × (op ≢ 0)) × (op ≢ 1)) × (op ≢ 2)) × (op ≢ 3)) × (op ≢ 4)) × (op ≢ 5)) × (op ≢ 6)) × (op ≢ 7)) × (op ≢ 8) → 9 ≤ op
@@ -22,17 +21,6 @@ no_number (suc (suc (suc (suc (suc (suc zero)))))) h = absurd (h.0.0.1 refl)
 no_number (suc (suc (suc (suc (suc (suc (suc zero))))))) h = absurd (h.0.1 refl)
 no_number (suc (suc (suc (suc (suc (suc (suc (suc zero)))))))) h = absurd (h.1 refl)
 no_number (suc (suc (suc (suc (suc (suc (suc (suc (suc op))))))))) h = omega arith
-
-pub others : (op w a b : ℕ) (s : Status) → 9 ≤ op → operation op w a b s ≡ moved b s
-unfolding operation
-others op w a b s h = get_or-eq_default (results w a b s) (moved b s) {n = op} h
-
-pub last_single : (op w a : ℕ) (s : Status) → op ≢ 0 → op ≢ 1 → op ≢ 2 → single op w a s ≡ difference w 0 a 0
-unfolding single
-last_single zero w a s h k l = absurd (h refl)
-last_single (suc zero) w a s h k l = absurd (k refl)
-last_single (suc (suc zero)) w a s h k l = absurd (l refl)
-last_single (suc (suc (suc op))) w a s h k l = refl
 
 -- an answer whose carry was put back
 abbrev pub carry_kept : Status → Out → Out

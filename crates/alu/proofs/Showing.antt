@@ -1,31 +1,28 @@
 -- Which dword shows a byte's flags, and which one shows flags that are given.
 -- Assumes nothing.
-use Prim.Native.Nat.{ℕ, ◌+◌, ◌*◌, ◌/◌, ◌%◌, ◌<◌, ◌≤◌}
+use Prim.Native.Nat.{ℕ, ◌+◌, ◌%◌, ◌<◌, ◌≤◌}
 use native.Mathlib.Omega.{arith}
 use mathlib.Core.Path.{◌≡◌, refl, sym, subst}
-use mathlib.Core.Bool.{Bool, true, false, not, beq, false≢true}
+use mathlib.Core.Bool.{Bool, true, false, false≢true}
 use lib.Count.{ones}
 use lib.Dec.{ltb, leb, eqb}
 use borrow.Author.Tests.{ltb-true, ltb-false, le-leb, lt-leb, ne_eqb}
-use Rattle.alu.proofs.Carries.{byte_place, byte_top}
 use Rattle.alu.specs.declared.Status.{Status}
-use Rattle.alu.specs.declared.brief.Brief.{Brief}
-use Rattle.alu.specs.Arithmetic.{parity, is_zero, sign, signed_byte}
-use Rattle.alu.specs.Brief.{seeing, carry_out, status_in, tellable}
+use Rattle.alu.specs.Arithmetic.{parity, signed_byte}
+use Rattle.alu.specs.Brief.{seeing, tellable}
+use Rattle.alu.specs.Word.{ShowsAlike}
 
 -- a byte with its sign shows the byte's zero, sign and parity
-pub byte_status : (cf af of : Bool) (r : ℕ) → r < 256
-    → seeing cf af of (signed_byte r) ≡ record { cf = cf; pf = parity r; af = af; zf = is_zero r; sf = sign 8 r; of = of }
+pub byte_shows : (r : ℕ) → r < 256 → ShowsAlike 8 (signed_byte r) r
 unfolding parity
-byte_status cf af of r h = by (ltb r 128) refl
+byte_shows r h = by (ltb r 128) refl
   where
-    by : (b : Bool) → ltb r 128 ≡ b
-        → seeing cf af of (signed_byte r) ≡ record { cf = cf; pf = parity r; af = af; zf = is_zero r; sf = sign 8 r; of = of }
+    by : (b : Bool) → ltb r 128 ≡ b → ShowsAlike 8 (signed_byte r) r
     by true e =
         let k : r < 128 = ltb-true _ _ e in
         let n : leb 2147483648 r ≡ false = lt-leb 2147483648 r (omega (arith, k)) in
         let m : leb 128 r ≡ false = lt-leb 128 r k in
-        rw (e, n, m)
+        rw (e, n, m) (refl, (refl, refl))
     by false e =
         let k : 128 ≤ r = ltb-false _ _ e in
         let n : leb 2147483648 (r + 4294967040) ≡ true = le-leb 2147483648 (r + 4294967040) (omega (arith, k)) in
@@ -33,12 +30,7 @@ byte_status cf af of r h = by (ltb r 128) refl
         let z : (r + 4294967040) % 256 ≡ r % 256 = omega arith in
         let y : eqb r 0 ≡ false = ne_eqb r 0 (λ q. omega (arith, k, q)) in
         let x : eqb (r + 4294967040) 0 ≡ false = ne_eqb (r + 4294967040) 0 (λ q. omega (arith, q)) in
-        rw (e, n, m, z, y, x)
-
--- the flags of an operation of bytes, whose carries into its places are those of m
-pub byte_brief : (f : Brief) (cf : Bool) (m r : ℕ) → m < 256 → r < 256 → carry_out f ≡ cf → f.into ≡ m % 256 * 16777217 → f.seen ≡ signed_byte r
-    → status_in f ≡ record { cf = cf; pf = parity r; af = eqb (m / 16 % 2) 1; zf = is_zero r; sf = sign 8 r; of = not (beq (leb 128 m) cf) }
-byte_brief f cf m r hm hr ec ei es = rw (ec, ei, es, byte_place m, byte_top m hm) (byte_status cf _ _ r hr)
+        rw (e, n, m, z, y, x) (refl, (refl, refl))
 
 abbrev pub Shows : Status → ℕ → Type 0
 Shows s r = tellable s ≡ true → seeing s.cf s.af s.of r ≡ s

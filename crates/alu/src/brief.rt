@@ -1,8 +1,9 @@
 // Sums, differences and logic with their flags in brief, at 8 and 32 bits: where one operation follows the other, most flags are never asked for.
 ghost use Rattle.std.specs.Prelude.{◌≡◌, Bool, true, false, ◌+◌, ◌-◌, ◌*◌, ◌/◌, ◌%◌, ◌^◌, ◌<◌, ◌≤◌};
-ghost use Rattle.alu.specs.Arithmetic.{bit, sum, difference, logic, keep_carry};
+ghost use Rattle.alu.specs.Arithmetic.{bit, bits, sum, difference, logic, keep_carry};
 ghost use Rattle.alu.specs.Brief.{status_in, out_in, tellable, seeing};
 
+use crate::word::Word;
 use crate::{Out, Status};
 
 // The carry out of the operation's top place, the carries into its places, and the dword that shows ZF, SF and PF (specs/Brief). All are dwords, so that
@@ -87,8 +88,8 @@ pub fn beside(cf: bool, af: bool, of: bool, seen: u32) -> Brief
     ensures { status_in result ≡ seeing cf af of seen }
 {
     Brief {
-        out: crate::one(cf),
-        into: 16 * crate::one(af) + 0x8000_0000 * crate::one(of != cf),
+        out: u32::from(cf),
+        into: 16 * u32::from(af) + 0x8000_0000 * u32::from(of != cf),
         seen,
     }
 }
@@ -111,96 +112,51 @@ pub fn with_both(f: Brief, c: bool) -> Brief
     ensures { status_in result ≡ seeing c (status_in f).af c f.seen }
 {
     Brief {
-        out: crate::one(c),
+        out: u32::from(c),
         into: f.into % 0x8000_0000,
         seen: f.seen,
     }
 }
 
-pub fn add32(a: u32, b: u32, c: bool) -> Short
-    ensures { out_in result ≡ sum 32 a b (bit c) }
+pub fn add<W: Word>(a: W, b: W, c: bool) -> Short
+    ensures { out_in result ≡ sum (bits W.wide) (W.number a) (W.number b) (bit c) }
 {
-    let k = crate::one(c);
-    let t = a as u64 + b as u64 + k as u64;
-    let r = (t % 0x1_0000_0000) as u32;
+    let (x, y) = (a.number(), b.number());
+    let t = u64::from(x) + u64::from(y) + u64::from(c);
+    let r = (t % W::VALUES) as u32;
     let flags = Brief {
-        out: (t / 0x1_0000_0000) as u32,
-        into: a ^ b ^ r,
-        seen: r,
+        out: (t / W::VALUES) as u32,
+        into: W::carries(x ^ y ^ r),
+        seen: W::showing(r),
     };
     Short { value: r, flags }
 }
 
-pub fn sub32(a: u32, b: u32, c: bool) -> Short
-    ensures { out_in result ≡ difference 32 a b (bit c) }
+pub fn sub<W: Word>(a: W, b: W, c: bool) -> Short
+    ensures { out_in result ≡ difference (bits W.wide) (W.number a) (W.number b) (bit c) }
 {
-    let k = crate::one(c);
-    let s = b as u64 + k as u64;
-    let r = ((0x1_0000_0000 + a as u64 - s) % 0x1_0000_0000) as u32;
+    let (x, y) = (a.number(), b.number());
+    let s = u64::from(y) + u64::from(c);
+    let r = ((W::VALUES + u64::from(x) - s) % W::VALUES) as u32;
     let flags = Brief {
-        out: crate::one((a as u64) < s),
-        into: a ^ b ^ r,
-        seen: r,
+        out: u32::from(u64::from(x) < s),
+        into: W::carries(x ^ y ^ r),
+        seen: W::showing(r),
     };
     Short { value: r, flags }
 }
 
 // AND, OR, XOR and TEST carry nothing into any place or out of the top one; f, the flags before, is there for the contract alone.
-pub fn logic32(r: u32, f: Brief) -> Short
-    ensures { out_in result ≡ logic 32 (status_in f) r }
+pub fn logic<W: Word>(r: W, f: Brief) -> Short
+    ensures { out_in result ≡ logic (bits W.wide) (status_in f) (W.number r) }
 {
+    let x = r.number();
     let flags = Brief {
         out: 0,
         into: 0,
-        seen: r,
+        seen: W::showing(x),
     };
-    Short { value: r, flags }
-}
-
-// The carries into a byte's places, with the one into its top place where a dword has it.
-fn byte_places(m: u32) -> u32
-    ensures { result ≡ m % 256 * 16777217 }
-{
-    m % 256 + m % 256 * 16777216
-}
-
-pub fn add8(a: u8, b: u8, c: bool) -> Short
-    ensures { out_in result ≡ sum 8 a b (bit c) }
-{
-    let k = crate::one(c);
-    let t = a as u32 + b as u32 + k;
-    let r = t % 256;
-    let flags = Brief {
-        out: t / 256,
-        into: byte_places(a as u32 ^ b as u32 ^ r),
-        seen: crate::signed_byte(r),
-    };
-    Short { value: r, flags }
-}
-
-pub fn sub8(a: u8, b: u8, c: bool) -> Short
-    ensures { out_in result ≡ difference 8 a b (bit c) }
-{
-    let k = crate::one(c);
-    let s = b as u32 + k;
-    let r = (256 + a as u32 - s) % 256;
-    let flags = Brief {
-        out: crate::one((a as u32) < s),
-        into: byte_places(a as u32 ^ b as u32 ^ r),
-        seen: crate::signed_byte(r),
-    };
-    Short { value: r, flags }
-}
-
-pub fn logic8(r: u8, f: Brief) -> Short
-    ensures { out_in result ≡ logic 8 (status_in f) r }
-{
-    let shown = logic32(crate::signed_byte(r as u32), f);
-    let flags = shown.flags;
-    Short {
-        value: r as u32,
-        flags,
-    }
+    Short { value: x, flags }
 }
 
 // The same with CF as it was before.

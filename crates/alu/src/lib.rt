@@ -2,13 +2,16 @@
 #![tactic(auto)]
 
 pub mod brief;
+pub mod word;
 
 ghost use Rattle.std.specs.Prelude.{◌≡◌, Bool, true, false, ◌+◌, ◌-◌, ◌*◌, ◌/◌, ◌%◌, ◌^◌, ◌<◌, ◌≤◌};
 ghost use Rattle.std.specs.Int.Bits.{bit_and, bit_or, bit_xor};
-ghost use Rattle.alu.specs.Arithmetic.{bit, parity, sum, difference, logic, operation, operate, writes, keep_carry, single, operate_one, signed_byte};
+ghost use Rattle.alu.specs.Arithmetic.{bit, bits, parity, sum, difference, logic, operation, operate, writes, keep_carry, single, operate_one, signed_byte};
+
+use word::Word;
 
 // The six flags that arithmetic sets.
-#[derive(Clone, Copy)]
+#[derive(Clone, Copy, PartialEq, Eq)]
 pub struct Status {
     pub cf: bool,
     pub pf: bool,
@@ -18,108 +21,68 @@ pub struct Status {
     pub of: bool,
 }
 
-#[derive(Clone, Copy)]
+#[derive(Clone, Copy, PartialEq, Eq)]
 pub struct Out {
     pub value: u32,
     pub status: Status,
 }
 
+#[tactic(auto, unfolding(crate::specs::Arithmetic::parity))]
 pub fn even(x: u32) -> bool
     ensures { result ≡ parity x }
 {
-    u32::count_ones(x % 256) % 2 == 0
+    (x % 256).count_ones() % 2 == 0
 }
 
-fn one(c: bool) -> u32
-    ensures { (result ≡ bit c) × (result ≤ 1) }
+pub fn add<W: Word>(a: W, b: W, c: bool) -> Out
+    ensures { result ≡ sum (bits W.wide) (W.number a) (W.number b) (bit c) }
 {
-    if c { 1 } else { 0 }
+    brief::out_in(brief::add(a, b, c))
 }
 
-pub fn add32(a: u32, b: u32, c: bool) -> Out
-    ensures { result ≡ sum 32 a b (bit c) }
+pub fn sub<W: Word>(a: W, b: W, c: bool) -> Out
+    ensures { result ≡ difference (bits W.wide) (W.number a) (W.number b) (bit c) }
 {
-    brief::out_in(brief::add32(a, b, c))
+    brief::out_in(brief::sub(a, b, c))
 }
 
-pub fn sub32(a: u32, b: u32, c: bool) -> Out
-    ensures { result ≡ difference 32 a b (bit c) }
+pub fn logic<W: Word>(r: W, s: Status) -> Out
+    ensures { result ≡ logic (bits W.wide) s (W.number r) }
 {
-    brief::out_in(brief::sub32(a, b, c))
+    brief::out_in(brief::logic(r, brief::kept(s)))
 }
 
-pub fn logic32(r: u32, s: Status) -> Out
-    ensures { result ≡ logic 32 s r }
-{
-    brief::out_in(brief::logic32(r, brief::kept(s)))
-}
-
-pub fn add8(a: u8, b: u8, c: bool) -> Out
-    ensures { result ≡ sum 8 a b (bit c) }
-{
-    brief::out_in(brief::add8(a, b, c))
-}
-
-pub fn sub8(a: u8, b: u8, c: bool) -> Out
-    ensures { result ≡ difference 8 a b (bit c) }
-{
-    brief::out_in(brief::sub8(a, b, c))
-}
-
-pub fn logic8(r: u8, s: Status) -> Out
-    ensures { result ≡ logic 8 s r }
-{
-    brief::out_in(brief::logic8(r, brief::kept(s)))
-}
-
-fn operate32(op: u32, a: u32, b: u32, s: Status) -> Out
-    ensures { result ≡ operation op 32 a b s }
+#[tactic(auto, unfolding(crate::specs::Arithmetic::operation))]
+fn operate_at<W: Word>(op: u32, a: W, b: W, s: Status) -> Out
+    ensures { result ≡ operation op (bits W.wide) (W.number a) (W.number b) s }
 {
     match op {
-        0 => add32(a, b, false),
-        1 => logic32(a | b, s),
-        2 => add32(a, b, s.cf),
-        3 => sub32(a, b, s.cf),
-        4 => logic32(a & b, s),
-        5 => sub32(a, b, false),
-        6 => logic32(a ^ b, s),
-        7 => sub32(a, b, false),
-        8 => logic32(a & b, s),
+        0 => add(a, b, false),
+        1 => logic(a | b, s),
+        2 => add(a, b, s.cf),
+        3 => sub(a, b, s.cf),
+        4 => logic(a & b, s),
+        5 => sub(a, b, false),
+        6 => logic(a ^ b, s),
+        7 => sub(a, b, false),
+        8 => logic(a & b, s),
         _ => Out {
-            value: b,
-            status: s,
-        },
-    }
-}
-
-fn operate8(op: u32, a: u8, b: u8, s: Status) -> Out
-    ensures { result ≡ operation op 8 a b s }
-{
-    match op {
-        0 => add8(a, b, false),
-        1 => logic8(a | b, s),
-        2 => add8(a, b, s.cf),
-        3 => sub8(a, b, s.cf),
-        4 => logic8(a & b, s),
-        5 => sub8(a, b, false),
-        6 => logic8(a ^ b, s),
-        7 => sub8(a, b, false),
-        8 => logic8(a & b, s),
-        _ => Out {
-            value: b as u32,
+            value: b.number(),
             status: s,
         },
     }
 }
 
 // An operation of two operands, at a width.
+#[tactic(auto, unfolding(crate::specs::Arithmetic::operate))]
 pub fn operate(op: u32, wide: bool, a: u32, b: u32, s: Status) -> Out
     ensures { result ≡ operate op wide a b s }
 {
     if wide {
-        return operate32(op, a, b, s);
+        operate_at(op, a, b, s)
+    } else {
+        operate_at(op, u8::low(a), u8::low(b), s)
     }
-    operate8(op, (a % 256) as u8, (b % 256) as u8, s)
 }
 
 // Does the operation write its first operand?
@@ -129,79 +92,44 @@ pub fn writes(op: u32) -> bool
     !((op == 7) | (op == 8))
 }
 
-// The status with CF as it was before.
-fn keep_carry(s: Status, t: Status) -> Status
-    ensures { result ≡ keep_carry s t }
+// The same with CF as it was before.
+fn keep_carry(s: Status, o: Out) -> Out
+    ensures { result ≡ record { value = o.value; status = keep_carry s o.status } }
 {
-    let mut r = t;
-    r.cf = s.cf;
-    r
+    Out {
+        status: Status {
+            cf: s.cf,
+            ..o.status
+        },
+        ..o
+    }
 }
 
-fn single32(op: u32, a: u32, s: Status) -> Out
-    ensures { result ≡ single op 32 a s }
+#[tactic(auto, unfolding(crate::specs::Arithmetic::single))]
+fn single_at<W: Word>(op: u32, a: W, s: Status) -> Out
+    ensures { result ≡ single op (bits W.wide) (W.number a) s }
 {
-    if op == 0 {
-        let o = add32(a, 1, false);
-        let t = o.status;
-        return Out {
-            value: o.value,
-            status: keep_carry(s, t),
-        };
-    }
-    if op == 1 {
-        let o = sub32(a, 1, false);
-        let t = o.status;
-        return Out {
-            value: o.value,
-            status: keep_carry(s, t),
-        };
-    }
-    if op == 2 {
-        return Out {
-            value: 0xffff_ffff - a,
+    match op {
+        0 => keep_carry(s, add(a, W::low(1), false)),
+        1 => keep_carry(s, sub(a, W::low(1), false)),
+        2 => Out {
+            value: (W::VALUES - 1) as u32 - a.number(),
             status: s,
-        };
+        },
+        _ => sub(W::low(0), a, false),
     }
-    sub32(0, a, false)
-}
-
-fn single8(op: u32, a: u8, s: Status) -> Out
-    ensures { result ≡ single op 8 a s }
-{
-    if op == 0 {
-        let o = add8(a, 1, false);
-        let t = o.status;
-        return Out {
-            value: o.value,
-            status: keep_carry(s, t),
-        };
-    }
-    if op == 1 {
-        let o = sub8(a, 1, false);
-        let t = o.status;
-        return Out {
-            value: o.value,
-            status: keep_carry(s, t),
-        };
-    }
-    if op == 2 {
-        return Out {
-            value: 255 - a as u32,
-            status: s,
-        };
-    }
-    sub8(0, a, false)
 }
 
 // An operation of one operand, at a width.
+#[tactic(auto, unfolding(crate::specs::Arithmetic::operate_one))]
 pub fn operate_one(op: u32, wide: bool, a: u32, s: Status) -> Out
     ensures { result ≡ operate_one op wide a s }
 {
     if wide {
-        return single32(op, a, s);
+        single_at(op, a, s)
+    } else {
+        single_at(op, u8::low(a), s)
     }
-    single8(op, (a % 256) as u8, s)
 }
 
 // A byte with its sign, as a dword.

@@ -1,5 +1,5 @@
 // Operations of two operands and of one, shifts, multiplication and division.
-#![tactic(auto)]
+#![tactic(auto, unfolding(crate::specs::Arithmetic::combined, crate::specs::Arithmetic::combined_from, crate::specs::Arithmetic::do_combine_to, crate::specs::Arithmetic::do_combine_immediate, crate::specs::Arithmetic::do_combine_from, crate::specs::Arithmetic::do_unary, crate::specs::Arithmetic::do_shift, crate::specs::Arithmetic::do_multiply, crate::specs::Arithmetic::do_divide, crate::specs::Arithmetic::do_accumulate, crate::specs::Arithmetic::do_multiply_by, crate::specs::Arithmetic::do_multiply_into))]
 
 ghost use Rattle.std.specs.Prelude.{◌≡◌};
 ghost use Rattle.arithmetic.specs.Arithmetic.{combined, combined_from, deposited, do_combine_to, do_combine_from, do_combine_immediate, do_unary, do_shift, upper, pair, do_multiply, do_divide, do_accumulate, timed, do_multiply_by, do_multiply_into};
@@ -8,89 +8,92 @@ use alu::Out;
 use encoding::Instruction;
 use machine::{Core, Registers, Reply};
 use operands::Effect;
-use products::{Product, Quotient};
+use products::Product;
 
 // The result is put into the operand.
 fn deposited(i: Instruction, k: Core, o: Out) -> Effect
     ensures { result ≡ deposited i k o }
 {
-    let r = k.regs;
-    let s = o.status;
-    operands::advanced(i, k, operands::deposit(i, r, o.value), s, o.value)
+    let regs = operands::deposit(i, k.regs, o.value);
+    operands::advanced(i, k, regs, o.status, o.value)
 }
 
 fn combined(i: Instruction, k: Core, o: Out) -> Effect
     ensures { result ≡ combined i k o }
 {
     if alu::writes(i.operation) {
-        return deposited(i, k, o);
+        deposited(i, k, o)
+    } else {
+        operands::advanced(i, k, k.regs, o.status, o.value)
     }
-    let r = k.regs;
-    let s = o.status;
-    operands::advanced(i, k, r, s, o.value)
 }
 
 pub fn combine_to(i: Instruction, k: Core, a: u32) -> Effect
     ensures { result ≡ do_combine_to i k a }
 {
-    let r = k.regs;
-    let f = k.flags;
-    let s = f.status;
-    let x = operands::value(i, r, a);
-    let y = r.read_at(i.wide, i.register);
-    combined(i, k, alu::operate(i.operation, i.wide, x, y, s))
+    let x = operands::value(i, k.regs, a);
+    let y = k.regs.read_at(i.wide, i.register);
+    combined(
+        i,
+        k,
+        alu::operate(i.operation, i.wide, x, y, k.flags.status),
+    )
 }
 
 pub fn combine_immediate(i: Instruction, k: Core, a: u32) -> Effect
     ensures { result ≡ do_combine_immediate i k a }
 {
-    let r = k.regs;
-    let f = k.flags;
-    let s = f.status;
-    let x = operands::value(i, r, a);
-    combined(i, k, alu::operate(i.operation, i.wide, x, i.immediate, s))
+    let x = operands::value(i, k.regs, a);
+    combined(
+        i,
+        k,
+        alu::operate(i.operation, i.wide, x, i.immediate, k.flags.status),
+    )
 }
 
 fn combined_from(i: Instruction, k: Core, o: Out) -> Effect
     ensures { result ≡ combined_from i k o }
 {
-    let r = k.regs;
-    let s = o.status;
     if alu::writes(i.operation) {
-        return operands::advanced(i, k, r.write_at(i.wide, i.register, o.value), s, 0);
+        let regs = k.regs.write_at(i.wide, i.register, o.value);
+        operands::advanced(i, k, regs, o.status, 0)
+    } else {
+        operands::advanced(i, k, k.regs, o.status, 0)
     }
-    operands::advanced(i, k, r, s, 0)
 }
 
 pub fn combine_from(i: Instruction, k: Core, a: u32) -> Effect
     ensures { result ≡ do_combine_from i k a }
 {
-    let r = k.regs;
-    let f = k.flags;
-    let s = f.status;
-    let x = operands::value(i, r, a);
-    let y = r.read_at(i.wide, i.register);
-    combined_from(i, k, alu::operate(i.operation, i.wide, y, x, s))
+    let x = operands::value(i, k.regs, a);
+    let y = k.regs.read_at(i.wide, i.register);
+    combined_from(
+        i,
+        k,
+        alu::operate(i.operation, i.wide, y, x, k.flags.status),
+    )
 }
 
 pub fn unary(i: Instruction, k: Core, a: u32) -> Effect
     ensures { result ≡ do_unary i k a }
 {
-    let r = k.regs;
-    let f = k.flags;
-    let s = f.status;
-    let x = operands::value(i, r, a);
-    deposited(i, k, alu::operate_one(i.operation, i.wide, x, s))
+    let x = operands::value(i, k.regs, a);
+    deposited(
+        i,
+        k,
+        alu::operate_one(i.operation, i.wide, x, k.flags.status),
+    )
 }
 
 pub fn shift(i: Instruction, k: Core, count: u32, a: u32) -> Effect
     ensures { result ≡ do_shift i k count a }
 {
-    let r = k.regs;
-    let f = k.flags;
-    let s = f.status;
-    let x = operands::value(i, r, a);
-    deposited(i, k, shifts::shift(i.operation, i.wide, count, x, s))
+    let x = operands::value(i, k.regs, a);
+    deposited(
+        i,
+        k,
+        shifts::shift(i.operation, i.wide, count, x, k.flags.status),
+    )
 }
 
 // The register of a pair's upper half: EDX, or AH.
@@ -104,75 +107,61 @@ fn upper(wide: bool) -> u32
 fn pair(wide: bool, r: Registers, low: u32, high: u32) -> Registers
     ensures { result ≡ pair wide r low high }
 {
-    let q = r.write_at(wide, 0, low);
-    q.write_at(wide, upper(wide), high)
+    r.write_at(wide, 0, low).write_at(wide, upper(wide), high)
 }
 
 fn multiply(i: Instruction, k: Core, x: u32) -> Effect
     ensures { result ≡ do_multiply i k x }
 {
-    let r = k.regs;
-    let f = k.flags;
-    let s = f.status;
-    let p = products::multiply(i.operation == 5, i.wide, r.read_at(i.wide, 0), x, s);
-    let t = p.status;
-    operands::advanced(i, k, pair(i.wide, r, p.low, p.high), t, 0)
+    let low = k.regs.read_at(i.wide, 0);
+    let p = products::multiply(i.operation == 5, i.wide, low, x, k.flags.status);
+    let regs = pair(i.wide, k.regs, p.low, p.high);
+    operands::advanced(i, k, regs, p.status, 0)
 }
 
 fn divide(i: Instruction, k: Core, x: u32) -> Effect
     ensures { result ≡ do_divide i k x }
 {
-    let r = k.regs;
-    let high = r.read_at(i.wide, upper(i.wide));
-    let low = r.read_at(i.wide, 0);
-    let q = products::divide(i.operation == 7, i.wide, high, low, x);
-    let Quotient::Divided(whole, rest) = q else {
+    let high = k.regs.read_at(i.wide, upper(i.wide));
+    let low = k.regs.read_at(i.wide, 0);
+    let Some(d) = products::divide(i.operation == 7, i.wide, high, low, x) else {
         return operands::refused(k, Reply::Fault(0, 0, 0));
     };
-    operands::onward(i, k, pair(i.wide, r, whole, rest))
+    operands::onward(i, k, pair(i.wide, k.regs, d.quotient, d.remainder))
 }
 
 pub fn accumulate(i: Instruction, k: Core, a: u32) -> Effect
     ensures { result ≡ do_accumulate i k a }
 {
-    let r = k.regs;
-    let x = operands::value(i, r, a);
+    let x = operands::value(i, k.regs, a);
     if i.operation < 6 {
-        return multiply(i, k, x);
+        multiply(i, k, x)
+    } else {
+        divide(i, k, x)
     }
-    divide(i, k, x)
 }
 
 fn timed(i: Instruction, k: Core, p: Product) -> Effect
     ensures { result ≡ timed i k p }
 {
-    let r = k.regs;
-    let s = p.status;
-    operands::advanced(i, k, r.with(i.register, p.low), s, 0)
+    operands::advanced(i, k, k.regs.with(i.register, p.low), p.status, 0)
 }
 
 pub fn multiply_by(i: Instruction, k: Core, a: u32) -> Effect
     ensures { result ≡ do_multiply_by i k a }
 {
-    let r = k.regs;
-    let f = k.flags;
-    let s = f.status;
+    let x = operands::value(i, k.regs, a);
     timed(
         i,
         k,
-        products::multiply(true, true, operands::value(i, r, a), i.immediate, s),
+        products::multiply(true, true, x, i.immediate, k.flags.status),
     )
 }
 
 pub fn multiply_into(i: Instruction, k: Core, a: u32) -> Effect
     ensures { result ≡ do_multiply_into i k a }
 {
-    let r = k.regs;
-    let f = k.flags;
-    let s = f.status;
-    timed(
-        i,
-        k,
-        products::multiply(true, true, r.read(i.register), operands::value(i, r, a), s),
-    )
+    let x = operands::value(i, k.regs, a);
+    let y = k.regs.read(i.register);
+    timed(i, k, products::multiply(true, true, y, x, k.flags.status))
 }

@@ -4,10 +4,12 @@ use Prim.Native.Nat.{ℕ, ◌+◌, ◌<◌, ◌≤◌}
 use mathlib.Core.Path.{◌≡◌, refl, sym, ap, ◌∙◌}
 use mathlib.Core.Bool.{Bool, true, false, true≢false}
 use mathlib.Core.Option.{Option, none, some}
+use Rattle.std.specs.Prelude as program
 use native.Mathlib.Omega.{arith}
 use native.Mathlib.Numerals.{add-one}
 use native.Mathlib.Decide.{dec_lt}
 use Rattle.machine.specs.Audit.{first}
+use Rattle.audit.specs.Searched.{found_of}
 use Rattle.isolation.specs.Answers.{Lowest}
 use Rattle.isolation.proofs.Audited.{first_none, first_some, all_none}
 
@@ -50,3 +52,10 @@ module _ (p : ℕ → Bool) where
   stays n k i e l =
       let w : Lowest p n i = first_some p n i (sym e) in
       sym (hit i k (all_none p i w.before) w.passes (omega (arith, w.small)))
+
+  -- what a search over the numbers from a up to b finds, where none below a passes
+  pub searched : (a b : ℕ) (r : program.Option ℕ) → first p a ≡ none
+      → program.MatchOption r ((k : ℕ) → a ≤ k → k < b → p k ≡ false) (λ i. (a ≤ i) × (i < b) × (p i ≡ true) × ((k : ℕ) → a ≤ k → k < i → p k ≡ false))
+      → found_of r ≡ first p b
+  searched a b program.None e h = sym (skip a b e h)
+  searched a b (program.Some i) e h = sym (hit i b (skip a i e h.3) h.2 h.1)

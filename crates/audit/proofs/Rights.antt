@@ -95,14 +95,17 @@ module _ (m : Mem) (c : Control) (d : ℕ) where
   unfolding page_at
   closed p h e = rw e (within_closed (holds_table m c) _ _ _ (dir_closed (holds_table m c) m _ _ entry_d h))
 
-  pub open_page : (t x : ℕ) → Sized m c → d < 1024 → t < 1024 → entry_d % 8 ≡ 7 → x ≡ dword_at m (slot (entry_d / 4096) t)
-      → exposed m c (d * 1024 + t) ≡ (eqb (x % 8) 7 && holds_table m c (x / 4096))
+module _ (m : Mem) (c : Control) (p : ℕ) where
+  abbrev entry_p : ℕ
+  entry_p = dword_at m (slot (dir_frame c) (p / 1024))
+
+  pub open_page : (x : ℕ) → Sized m c → p < 1048576 → entry_p % 8 ≡ 7 → x ≡ dword_at m (slot (entry_p / 4096) (p % 1024))
+      → exposed m c p ≡ (eqb (x % 8) 7 && holds_table m c (x / 4096))
   unfolding page_at within under entry_of
-  open_page t x s hd ht h e =
-      let td : (d * 1024 + t) / 1024 ≡ d = omega arith in
-      let tt' : (d * 1024 + t) % 1024 ≡ t = omega arith in
-      let b = bits entry_d h in
-      let in1 : slot (dir_frame c) d < length m = slot_in _ _ _ s.whole s.dir_in hd in
-      let in2 : slot (entry_d / 4096) t < length m = slot_in _ _ _ s.whole (table_in m c d s hd b.0) ht in
-      rw (td, tt', lt-ltb _ _ in1, eq-eqb _ _ b.0, eq-eqb _ _ b.1, eq-eqb _ _ b.2, lt-ltb _ _ in2, ← e)
+  open_page x s hp h e =
+      let b = bits entry_p h in
+      let hd : p / 1024 < 1024 = omega arith in
+      let in1 : slot (dir_frame c) (p / 1024) < length m = slot_in _ _ _ s.whole s.dir_in hd in
+      let in2 : slot (entry_p / 4096) (p % 1024) < length m = slot_in _ _ _ s.whole (table_in m c _ s hd b.0) (omega arith) in
+      rw (lt-ltb _ _ in1, eq-eqb _ _ b.0, eq-eqb _ _ b.1, eq-eqb _ _ b.2, lt-ltb _ _ in2, ← e)
       (leaf_opens (holds_table m c) _ _ x)

@@ -1,24 +1,23 @@
 -- What the audit's searches find, and its flags of the frames that hold tables.
 -- Assumes nothing.
-use Rattle.std.specs.Prelude.{ℕ, ◌*◌, ◌/◌, ◌%◌, ◌<◌, ◌≤◌, ◌≡◌, Bool, true, false, ◌||◌, cond, List, length, get_or, set, eqb}
-use Rattle.std.proofs.Math.Option.{Option, none, some}
+use Rattle.std.specs.Prelude.{ℕ, ◌*◌, ◌/◌, ◌%◌, ◌<◌, ◌≤◌, ◌≡◌, Bool, true, false, ◌||◌, cond, List, length, get_or, set, eqb, Option, Some, None}
+use Rattle.std.proofs.Math.Option as maybe
 use Rattle.machine.specs.declared.Control.{Control}
 use Rattle.machine.specs.Record.{Mem}
 use Rattle.machine.specs.Paging.{entry, dir_frame}
 use Rattle.machine.specs.Audit.{first, is_some, names, outside, holds_table}
-use Rattle.audit.specs.declared.Found.{Found}
-use Rattle.audit.specs.declared.Found.TheVariants.{At, Nothing}
 
-abbrev pub found_of : Found → Option ℕ
-found_of (At i) = some i
-found_of Nothing = none
+-- what a search answers, in the words of the definition
+abbrev pub found_of : Option ℕ → maybe.Option ℕ
+found_of (Some i) = maybe.some i
+found_of None = maybe.none
 
 -- the directory and every present table lie in a memory of whole frames
 pub record Sized (m : Mem) (c : Control) : Type 0 where
   pub whole : length m % 4096 ≡ 0
   pub small : length m ≤ 16777216
   pub dir_in : dir_frame c * 4096 < length m
-  pub tabs_in : first (outside m c) 1024 ≡ none
+  pub tabs_in : first (outside m c) 1024 ≡ maybe.none
 
 -- ---- one flag for each frame that a memory can have
 

@@ -1,20 +1,13 @@
 // The audit: do the maps keep the user away from the directory and the tables?
 #![tactic(auto)]
 
-ghost use Rattle.std.specs.Prelude.{◌≡◌, true, false, ◌+◌, ◌*◌, ◌/◌, ◌%◌, ◌<◌, ◌≤◌, length, get_or, set};
+ghost use Rattle.std.specs.Prelude.{◌≡◌, true, false, ◌+◌, ◌*◌, ◌/◌, ◌%◌, ◌<◌, ◌≤◌, length};
 ghost use Rattle.std.proofs.Math.Option.{none};
 ghost use Rattle.machine.specs.Paging.{dword_at, slot, dir_frame};
 ghost use Rattle.machine.specs.Audit.{first, in_memory, outside, exposed, tables, audit};
 ghost use Rattle.audit.specs.Searched.{found_of, with_table, Sized, Clear, Flags, Held};
 
 use machine::{Control, Cpu, Reply};
-
-// What a search finds: the lowest number that passes, if any does.
-#[derive(Clone, Copy)]
-enum Found {
-    At(u32),
-    Nothing,
-}
 
 // Does frame f exist in a memory of n bytes?
 fn in_memory(n: usize, f: u32) -> bool
@@ -32,34 +25,10 @@ fn strays(mem: &[u8], c: Control, d: u32) -> bool
 }
 
 // The lowest entry of the directory whose table doesn't exist.
-fn stray(mem: &[u8], c: Control) -> Found
+fn stray(mem: &[u8], c: Control) -> Option<u32>
     ensures { found_of result ≡ first (outside mem.now c) 1024 }
 {
-    let mut d: u32 = 0;
-    while d < 1024 {
-        if strays(mem, c, d) {
-            return Found::At(d);
-        }
-        d += 1;
-    }
-    Found::Nothing
-}
-
-// The flag of a frame: false past the end.
-fn flag(held: &[bool], f: u32) -> bool
-    ensures { result ≡ get_or held.now f false }
-{
-    let i = f as usize;
-    if i < held.len() { held[i] } else { false }
-}
-
-fn raise(held: &mut [bool], f: u32)
-    ensures { held.new ≡ set held.old f true }
-{
-    let i = f as usize;
-    if i < held.len() {
-        held[i] = true;
-    }
+    (0..1024).find(|d| strays(mem, c, *d))
 }
 
 // The table that a present entry names gets its flag, whoever may use it.
@@ -67,7 +36,7 @@ fn raise_table(held: &mut [bool], e: u32)
     ensures { held.new ≡ with_table held.old e }
 {
     if e % 2 == 1 {
-        raise(held, e / 4096);
+        cells::put(held, e as usize / 4096, true);
     }
 }
 
@@ -76,58 +45,46 @@ fn raise_all(mem: &[u8], c: Control, held: &mut [bool])
     requires { Clear held.old }
     ensures { Flags mem.now c 1024 held.new }
 {
-    raise(held, c.cr3 / 4096);
-    let mut d: u32 = 0;
-    while d < 1024 {
+    cells::put(held, c.cr3 as usize / 4096, true);
+    for d in 0..1024 {
         raise_table(held, paging::entry(mem, c.cr3 / 4096, d));
-        d += 1;
     }
 }
 
-// Does entry t of the table that e names open a frame that is held? All of P, R/W and U/S are set in e.
-fn opens_at(mem: &[u8], c: Control, held: &[bool], d: u32, t: u32, e: u32) -> bool
-    requires sized { Sized mem.now c × ((d < 1024) × (t < 1024)) }
-    requires held { Held mem.now c held.now × ((e ≡ dword_at mem.now (slot (dir_frame c) d)) × (e % 8 ≡ 7)) }
-    ensures { result ≡ exposed mem.now c (d * 1024 + t) }
+// Does page p open a frame that is held? All of P, R/W and U/S are set in e, the entry of the directory that names its table.
+fn opens_at(mem: &[u8], c: Control, held: &[bool], p: u32, e: u32) -> bool
+    requires sized { Sized mem.now c × (p < 1048576) }
+    requires held { Held mem.now c held.now × ((e ≡ dword_at mem.now (slot (dir_frame c) (p / 1024))) × (e % 8 ≡ 7)) }
+    ensures { result ≡ exposed mem.now c p }
 {
-    let x = paging::entry(mem, e / 4096, t);
-    (x % 8 == 7) & flag(held, x / 4096)
+    let x = paging::entry(mem, e / 4096, p % 1024);
+    (x % 8 == 7) & cells::get(held, x as usize / 4096, false)
 }
 
 // The lowest page so far that opens a held frame, where there is none before entry d of the directory.
-fn open_in(mem: &[u8], c: Control, held: &[bool], d: u32) -> Found
+fn open_in(mem: &[u8], c: Control, held: &[bool], d: u32) -> Option<u32>
     requires sized { Sized mem.now c × (d < 1024) }
     requires held { Held mem.now c held.now × (first (exposed mem.now c) (d * 1024) ≡ none) }
     ensures { found_of result ≡ first (exposed mem.now c) (d * 1024 + 1024) }
 {
     let e = paging::entry(mem, c.cr3 / 4096, d);
     if e % 8 != 7 {
-        return Found::Nothing;
+        return None;
     }
-    let mut t: u32 = 0;
-    while t < 1024 {
-        if opens_at(mem, c, held, d, t, e) {
-            return Found::At(d * 1024 + t);
-        }
-        t += 1;
-    }
-    Found::Nothing
+    (d * 1024..d * 1024 + 1024).find(|p| opens_at(mem, c, held, *p, e))
 }
 
 // The lowest page at which the user may write a held frame.
-fn opening(mem: &[u8], c: Control, held: &[bool]) -> Found
+fn opening(mem: &[u8], c: Control, held: &[bool]) -> Option<u32>
     requires { Sized mem.now c × Held mem.now c held.now }
     ensures { found_of result ≡ first (exposed mem.now c) 1048576 }
 {
-    let mut d: u32 = 0;
-    while d < 1024 {
-        let f = open_in(mem, c, held, d);
-        if let Found::At(p) = f {
-            return Found::At(p);
+    for d in 0..1024 {
+        if let Some(p) = open_in(mem, c, held, d) {
+            return Some(p);
         }
-        d += 1;
     }
-    Found::Nothing
+    None
 }
 
 fn tables(mem: &[u8], c: Control) -> Reply
@@ -137,12 +94,12 @@ fn tables(mem: &[u8], c: Control) -> Reply
     if !in_memory(mem.len(), c.cr3 / 4096) {
         return Reply::TableOutside(1024);
     }
-    if let Found::At(d) = stray(mem, c) {
+    if let Some(d) = stray(mem, c) {
         return Reply::TableOutside(d);
     }
     let mut held = [false; 4096];
     raise_all(mem, c, &mut held);
-    if let Found::At(p) = opening(mem, c, &held) {
+    if let Some(p) = opening(mem, c, &held) {
         return Reply::Exposed(p * 4096);
     }
     Reply::Safe

@@ -8,6 +8,8 @@ use alu::Status;
 
 // What a row may name, a bit each: flags, less (SF and OF differ), and whether the condition is that none of those holds. A row is a byte because the
 // table is laid out anew wherever it is indexed.
+// Stays: the conditions are a constant array of rows, a form that the project names (docs/DECISIONS.md, "Forms"); as structs of bools a row cost 78 host
+// instructions to read.
 const O: u8 = 1;
 
 const C: u8 = 2;

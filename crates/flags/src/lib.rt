@@ -1,5 +1,5 @@
 // CMC CLC STC CLI STI CLD STD, SAHF and LAHF.
-#![tactic(auto)]
+#![tactic(auto, unfolding(crate::specs::FlagOperations::changed, crate::specs::FlagOperations::do_flag, crate::specs::FlagOperations::do_transfer))]
 
 ghost use Rattle.std.specs.Prelude.{◌≡◌};
 ghost use Rattle.flags.specs.FlagOperations.{with_carry, changed, do_flag, from_byte, to_byte, do_transfer};
@@ -12,55 +12,39 @@ use operands::Effect;
 fn with_carry(f: Flags, b: bool) -> Flags
     ensures { result ≡ with_carry f b }
 {
-    let mut s = f.status;
-    s.cf = b;
     Flags {
-        status: s,
-        interrupt: f.interrupt,
-        direction: f.direction,
+        status: Status { cf: b, ..f.status },
+        ..f
     }
 }
 
 fn changed(op: u32, f: Flags) -> Flags
     ensures { result ≡ changed op f }
 {
-    let s = f.status;
-    if op == 5 {
-        return with_carry(f, !s.cf);
-    }
-    if op == 8 {
-        return with_carry(f, false);
-    }
-    if op == 9 {
-        return with_carry(f, true);
-    }
-    if op == 10 {
-        return Flags {
-            status: s,
+    match op {
+        5 => with_carry(f, !f.status.cf),
+        8 => with_carry(f, false),
+        9 => with_carry(f, true),
+        10 => Flags {
             interrupt: false,
-            direction: f.direction,
-        };
-    }
-    if op == 11 {
-        return Flags {
-            status: s,
+            ..f
+        },
+        11 => Flags {
             interrupt: true,
-            direction: f.direction,
-        };
-    }
-    Flags {
-        status: s,
-        interrupt: f.interrupt,
-        direction: !(op == 12),
+            ..f
+        },
+        _ => Flags {
+            direction: !(op == 12),
+            ..f
+        },
     }
 }
 
 pub fn flag(i: Instruction, k: Core) -> Effect
     ensures { result ≡ do_flag i k }
 {
-    let r = k.regs;
-    let f = k.flags;
-    operands::went(r, operands::next(i, k), changed(i.operation, f), 0)
+    let flags = changed(i.operation, k.flags);
+    operands::went(k.regs, operands::next(i, k), flags, 0)
 }
 
 fn from_byte(s: Status, x: u32) -> Status
@@ -72,7 +56,7 @@ fn from_byte(s: Status, x: u32) -> Status
         af: x / 16 % 2 == 1,
         zf: x / 64 % 2 == 1,
         sf: x / 128 % 2 == 1,
-        of: s.of,
+        ..s
     }
 }
 
@@ -89,16 +73,13 @@ fn to_byte(s: Status) -> u32
 pub fn transfer(i: Instruction, k: Core) -> Effect
     ensures { result ≡ do_transfer i k }
 {
-    let r = k.regs;
-    let f = k.flags;
-    let s = f.status;
     if i.operation == 14 {
-        let g = Flags {
-            status: from_byte(s, r.read_byte(4)),
-            interrupt: f.interrupt,
-            direction: f.direction,
+        let flags = Flags {
+            status: from_byte(k.flags.status, k.regs.read_byte(4)),
+            ..k.flags
         };
-        return operands::went(r, operands::next(i, k), g, 0);
+        operands::went(k.regs, operands::next(i, k), flags, 0)
+    } else {
+        operands::onward(i, k, k.regs.with_byte(4, to_byte(k.flags.status)))
     }
-    operands::onward(i, k, r.with_byte(4, to_byte(s)))
 }

@@ -22,21 +22,12 @@ use Rattle.shortcut.specs.Bytes.{displacement_at, operand_bytes}
 use Rattle.shortcut.specs.Forms.{combines_to, combines_from, operation_of, spot_of, up_to, left_fast, to_fast, from_fast, number_fast, address_fast, number_at, places_fast, times_fast, double_fast, register_fast, load_fast, accumulator_fast, count_fast}
 use Rattle.shortcut.proofs.Small.{and_left, and_right, or_left, or_right}
 use Rattle.shortcut.proofs.Spots.{form_based, spot_memory}
-use Rattle.shortcut.proofs.Taken.{not_taken, taken_to, taken_from, taken_number, taken_address, taken_places, taken_times, taken_double, taken_push_number, taken_near, taken_far, taken_call, taken_load, taken_accumulator, taken_test, taken_inc, taken_dec, taken_push, taken_pop, taken_return, taken_jump}
+use Rattle.shortcut.proofs.Taken.{taken_to, taken_from, taken_number, taken_address, taken_places, taken_times, taken_double, taken_push_number, taken_near, taken_far, taken_call, taken_load, taken_accumulator, taken_test, taken_inc, taken_dec, taken_push, taken_pop, taken_return, taken_jump}
 use Rattle.forms.specs.declared.Form.{Form}
 use Rattle.forms.specs.Forms.{reg, by_register, by_number, by_memory, meant, Small, ReadOk}
 
 abbrev form : ℕ → ℕ → ℕ → ℕ → ℕ → Form
 form k l a b n = record { kind = k; length = l; a = a; b = b; number = n }
-
--- no form
-pub none_read : (m : Mem) (i : ℕ) (f : Form) → f ≡ form 127 0 0 0 0 → ReadOk m i f
-unfolding meant
-none_read m i f h =
-    rw h (
-      (λ e s eip _ _. not_taken m e s eip i _ (refl, (refl, refl))),
-      record { kind = omega arith; length = omega arith; a = omega arith; b = omega arith; number = omega arith },
-    )
 
 -- ---- the groups of kinds
 

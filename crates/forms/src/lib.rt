@@ -1,7 +1,7 @@
 // The common encodings in a form that their bytes alone decide, so that they are read once and kept. Whatever is not here is no form.
 #![tactic(auto)]
 
-ghost use Rattle.std.specs.Prelude.{◌≡◌, ◌≢◌, true, List, ℕ, ◌+◌, ◌/◌, ◌%◌, ◌<◌, ◌≤◌, length};
+ghost use Rattle.std.specs.Prelude.{◌≡◌, ◌≢◌, true, List, ℕ, ◌+◌, ◌/◌, ◌%◌, ◌<◌, ◌≤◌, length, IfSome, Some};
 ghost use Rattle.machine.specs.Record.{at, wrap};
 ghost use Rattle.encoding.specs.declared.Class.TheVariants.{ArithmeticGroup, LoadAddress};
 ghost use Rattle.encoding.specs.Encodings.{Classed, class_of};
@@ -21,256 +21,234 @@ pub struct Form {
     pub number: u32,
 }
 
-// A memory operand that is a register and a number beside it: the number, and how many bytes the instruction has up to its immediate; 0 bytes for
-// another operand.
+// A memory operand that is a register and a number beside it: the number, and how many bytes the instruction has up to its immediate.
 #[derive(Clone, Copy)]
 struct Near {
     upto: u32,
     number: u32,
 }
 
-fn nothing() -> Form
-    ensures { result ≡ record { kind = 127; length = 0; a = 0; b = 0; number = 0 } }
-{
-    Form {
-        kind: 127,
-        length: 0,
-        a: 0,
-        b: 0,
-        number: 0,
-    }
-}
-
-fn beside(mem: &[u8], i: usize, m: u32) -> Near
+fn beside(mem: &[u8], i: usize, m: u32) -> Option<Near>
     requires { (i + 16 ≤ length mem.now) × (m < 192) }
-    ensures { (result.upto ≤ 6) × (result.upto ≢ 0 → (((e : List ℕ) → reg e 8 ≡ 0 → wrap (reg e (m % 8) + result.number) ≡ spot_of mem.now e i m) × (result.upto ≡ up_to mem.now i m))) }
+    ensures { IfSome result (λ q. (q.upto ≤ 6) × (((e : List ℕ) → reg e 8 ≡ 0 → wrap (reg e (m % 8) + q.number) ≡ spot_of mem.now e i m) × (q.upto ≡ up_to mem.now i m))) }
 {
     let n = m % 8;
     if n == 4 {
-        return Near { upto: 0, number: 0 };
+        return None;
     }
     if m / 64 == 1 {
-        return Near {
+        return Some(Near {
             upto: 3,
             number: fetch::extend(shortcut::bytes::byte(mem, i + 2)),
-        };
+        });
     }
     if m / 64 == 2 {
-        return Near {
+        return Some(Near {
             upto: 6,
             number: shortcut::bytes::dword(mem, i + 2),
-        };
+        });
     }
     if n == 5 {
-        return Near { upto: 0, number: 0 };
+        return None;
     }
-    Near { upto: 2, number: 0 }
+    Some(Near { upto: 2, number: 0 })
 }
 
 // The operand by a register.
-fn to_operand(mem: &[u8], i: usize, c: Class, op: u32, b: u32, m: u32) -> Form
+fn to_operand(mem: &[u8], i: usize, c: Class, op: u32, b: u32, m: u32) -> Option<Form>
     requires { (i + 16 ≤ length mem.now) × ((b ≡ at mem.now i) × ((m ≡ at mem.now (i + 1)) × ((m < 256) × ((c ≡ class_of b) × ((op ≡ operation_of c b) × (combines_to c ≡ true)))))) }
-    ensures { ReadOk mem.now i result }
+    ensures { IfSome result (λ f. ReadOk mem.now i f) }
 {
     if 192 <= m {
         if b % 2 == 1 {
-            return Form {
+            return Some(Form {
                 kind: op,
                 length: 2,
                 a: m % 8,
                 b: m / 8 % 8,
                 number: 0,
-            };
+            });
         }
         if op == 8 {
-            return Form {
+            return Some(Form {
                 kind: 74,
                 length: 2,
                 a: m % 8,
                 b: m / 8 % 8,
                 number: 0,
-            };
+            });
         }
-        return nothing();
+        return None;
     }
     if (op != 9) | (b % 2 == 0) {
-        return nothing();
+        return None;
     }
-    let q = beside(mem, i, m);
-    if q.upto == 0 {
-        return nothing();
-    }
-    Form {
+    let q = beside(mem, i, m)?;
+    Some(Form {
         kind: 64,
         length: q.upto,
         a: m / 8 % 8,
         b: m % 8,
         number: q.number,
-    }
+    })
 }
 
 // A register by the operand.
-fn from_operand(mem: &[u8], i: usize, c: Class, op: u32, b: u32, m: u32) -> Form
+fn from_operand(mem: &[u8], i: usize, c: Class, op: u32, b: u32, m: u32) -> Option<Form>
     requires { (i + 16 ≤ length mem.now) × ((b ≡ at mem.now i) × ((m ≡ at mem.now (i + 1)) × ((m < 256) × ((c ≡ class_of b) × ((op ≡ operation_of c b) × (combines_from c ≡ true)))))) }
-    ensures { ReadOk mem.now i result }
+    ensures { IfSome result (λ f. ReadOk mem.now i f) }
 {
     let wide = b % 2 == 1;
     if 192 <= m {
         if !wide {
-            return nothing();
+            return None;
         }
-        return Form {
+        return Some(Form {
             kind: op,
             length: 2,
             a: m / 8 % 8,
             b: m % 8,
             number: 0,
-        };
+        });
     }
-    let q = beside(mem, i, m);
-    if q.upto == 0 {
-        return nothing();
-    }
+    let q = beside(mem, i, m)?;
     if wide {
-        return Form {
+        return Some(Form {
             kind: 32 + op,
             length: q.upto,
             a: m / 8 % 8,
             b: m % 8,
             number: q.number,
-        };
+        });
     }
     if op == 7 {
-        return Form {
+        return Some(Form {
             kind: 72,
             length: q.upto,
             a: m / 8 % 8,
             b: m % 8,
             number: q.number,
-        };
+        });
     }
     if op == 9 {
-        return Form {
+        return Some(Form {
             kind: 73,
             length: q.upto,
             a: m / 8 % 8,
             b: m % 8,
             number: q.number,
-        };
+        });
     }
-    nothing()
+    None
 }
 
 // A register by an immediate, 81 and 83.
-fn by_number(mem: &[u8], i: usize, b: u32, m: u32) -> Form
+fn by_number(mem: &[u8], i: usize, b: u32, m: u32) -> Option<Form>
     requires { (i + 16 ≤ length mem.now) × ((b ≡ at mem.now i) × ((m ≡ at mem.now (i + 1)) × ((m < 256) × ((b < 256) × (class_of b ≡ ArithmeticGroup))))) }
-    ensures { ReadOk mem.now i result }
+    ensures { IfSome result (λ f. ReadOk mem.now i f) }
 {
     if (m < 192) | (b % 2 == 0) {
-        return nothing();
+        return None;
     }
     if b == 0x83 {
-        return Form {
+        return Some(Form {
             kind: 16 + m / 8 % 8,
             length: 3,
             a: m % 8,
             b: 0,
             number: fetch::extend(shortcut::bytes::byte(mem, i + 2)),
-        };
+        });
     }
-    Form {
+    Some(Form {
         kind: 16 + m / 8 % 8,
         length: 6,
         a: m % 8,
         b: 0,
         number: shortcut::bytes::dword(mem, i + 2),
-    }
+    })
 }
 
 // LEA.
-fn address_of(mem: &[u8], i: usize, b: u32, m: u32) -> Form
+fn address_of(mem: &[u8], i: usize, b: u32, m: u32) -> Option<Form>
     requires { (i + 16 ≤ length mem.now) × ((b ≡ at mem.now i) × ((m ≡ at mem.now (i + 1)) × ((m < 256) × (class_of b ≡ LoadAddress)))) }
-    ensures { ReadOk mem.now i result }
+    ensures { IfSome result (λ f. ReadOk mem.now i f) }
 {
     if 192 <= m {
-        return nothing();
+        return None;
     }
-    let q = beside(mem, i, m);
-    if q.upto == 0 {
-        return nothing();
-    }
-    Form {
+    let q = beside(mem, i, m)?;
+    Some(Form {
         kind: 71,
         length: q.upto,
         a: m / 8 % 8,
         b: m % 8,
         number: q.number,
-    }
+    })
 }
 
 // SHL, SHR and SAR of a register by an immediate or by one, IMUL of a register by an immediate of four bytes, MUL by a register.
-fn on_register(mem: &[u8], i: usize, b: u32, m: u32) -> Form
+fn on_register(mem: &[u8], i: usize, b: u32, m: u32) -> Option<Form>
     requires { (i + 16 ≤ length mem.now) × ((b ≡ at mem.now i) × ((m ≡ at mem.now (i + 1)) × ((192 ≤ m) × (m < 256)))) }
-    ensures { ReadOk mem.now i result }
+    ensures { IfSome result (λ f. ReadOk mem.now i f) }
 {
     let g = m / 8 % 8;
     let shifts = (4 <= g) & (g != 6);
     if (b == 0xc1) & shifts {
-        return Form {
+        return Some(Form {
             kind: 24 + g,
             length: 3,
             a: m % 8,
             b: 0,
             number: fetch::extend(shortcut::bytes::byte(mem, i + 2)),
-        };
+        });
     }
     if (b == 0xd1) & shifts {
-        return Form {
+        return Some(Form {
             kind: 24 + g,
             length: 2,
             a: m % 8,
             b: 0,
             number: 1,
-        };
+        });
     }
     if b == 0x69 {
-        return Form {
+        return Some(Form {
             kind: 76,
             length: 6,
             a: g,
             b: m % 8,
             number: shortcut::bytes::dword(mem, i + 2),
-        };
+        });
     }
     if (b == 0xf7) & (g == 4) {
-        return Form {
+        return Some(Form {
             kind: 75,
             length: 2,
             a: 0,
             b: m % 8,
             number: 0,
-        };
+        });
     }
-    nothing()
+    None
 }
 
 // A form with no operand but what stands here.
-fn with_number(kind: u32, length: u32, a: u32, b: u32, number: u32) -> Form
-    ensures { result ≡ record { kind = kind; length = length; a = a; b = b; number = number } }
+fn with_number(kind: u32, length: u32, a: u32, b: u32, number: u32) -> Option<Form>
+    ensures { result ≡ Some (record { kind = kind; length = length; a = a; b = b; number = number }) }
 {
-    Form {
+    Some(Form {
         kind,
         length,
         a,
         b,
         number,
-    }
+    })
 }
 
 // Pushes of a number, jumps and calls, by their opcodes.
-fn by_opcode(mem: &[u8], i: usize, b: u32, m: u32) -> Form
+fn by_opcode(mem: &[u8], i: usize, b: u32, m: u32) -> Option<Form>
     requires { (i + 16 ≤ length mem.now) × ((b ≡ at mem.now i) × ((m ≡ at mem.now (i + 1)) × (m < 256))) }
-    ensures { ReadOk mem.now i result }
+    ensures { IfSome result (λ f. ReadOk mem.now i f) }
 {
     match b {
         0x68 => with_number(66, 5, 0, 0, shortcut::bytes::dword(mem, i + 1)),
@@ -282,32 +260,32 @@ fn by_opcode(mem: &[u8], i: usize, b: u32, m: u32) -> Form
             if 192 <= m {
                 return on_register(mem, i, b, m);
             }
-            nothing()
+            None
         }
     }
 }
 
 // Opcodes without ModRM, by their class. Those of bytes are no forms.
-fn plain(mem: &[u8], i: usize, c: Class, b: u32, m: u32) -> Form
+fn plain(mem: &[u8], i: usize, c: Class, b: u32, m: u32) -> Option<Form>
     requires { (i + 16 ≤ length mem.now) × ((b ≡ at mem.now i) × ((m ≡ at mem.now (i + 1)) × ((m < 256) × ((b < 256) × (c ≡ class_of b))))) }
-    ensures { ReadOk mem.now i result }
+    ensures { IfSome result (λ f. ReadOk mem.now i f) }
 {
     match c {
         Class::ArithmeticAccumulator => {
             if b % 2 == 0 {
-                return nothing();
+                return None;
             }
             with_number(16 + b / 8 % 8, 5, 0, 0, shortcut::bytes::dword(mem, i + 1))
         }
         Class::TestAccumulator => {
             if b % 2 == 0 {
-                return nothing();
+                return None;
             }
             with_number(24, 5, 0, 0, shortcut::bytes::dword(mem, i + 1))
         }
         Class::MoveRegister => {
             if b / 8 % 2 == 0 {
-                return nothing();
+                return None;
             }
             with_number(25, 5, b % 8, 0, shortcut::bytes::dword(mem, i + 1))
         }
@@ -322,9 +300,9 @@ fn plain(mem: &[u8], i: usize, c: Class, b: u32, m: u32) -> Form
 }
 
 // The form of the instruction at index i of memory, where sixteen bytes are there.
-pub fn read(mem: &[u8], t: &[u8; 512], i: usize) -> Form
+pub fn read(mem: &[u8], t: &[u8; 512], i: usize) -> Option<Form>
     requires { (i + 16 ≤ length mem.now) × (Classed t.now) }
-    ensures { ReadOk mem.now i result }
+    ensures { IfSome result (λ f. ReadOk mem.now i f) }
 {
     let b = shortcut::bytes::byte(mem, i);
     let m = shortcut::bytes::byte(mem, i + 1);

@@ -18,7 +18,7 @@ use Rattle.hops.specs.declared.Rest.{Rest}
 use Rattle.hops.specs.declared.Swift.{Swift}
 use Rattle.keptpages.specs.declared.Kept.{Kept}
 use Rattle.phases.specs.Step.{micro32}
-use Rattle.hops.specs.Hops.{current, SwiftOk, after, RushOk}
+use Rattle.hops.specs.Hops.{moves, current, SwiftOk, after, RushOk}
 use Rattle.hops.proofs.Onward.{went_on, no_steps}
 
 pub rush_begun : (m : Mem) (e : List ℕ) (c : Control) (r : Rest) → RushOk m e c r 0 m e r
@@ -26,7 +26,7 @@ rush_begun m e c r d hc good = record { holds = good; went = λ b _. no_steps b 
 
 module _ (m₀ : Mem) (e₀ : List ℕ) (c : Control) (r₀ : Rest) (n : ℕ) (m : Mem) (e : List ℕ) (r : Rest) (k : RushOk m₀ e₀ c r₀ n m e r) (h : Kept) (m' : Mem) (e' d' : List ℕ) (w : Swift)
     (s : SwiftOk m e c r h m' e' d' w) where
-  pub rush_on : w.done ≡ true → RushOk m₀ e₀ c r₀ (n + 1) m' e' w.rest
+  pub rush_on : moves w.ending ≡ true → RushOk m₀ e₀ c r₀ (n + 1) m' e' w.rest
   rush_on g d hc good =
       let l = k d hc good in
       let o : Outcome = record { reply = Done; cpu = current d e' w.rest; mem = m' } in
@@ -36,7 +36,7 @@ module _ (m₀ : Mem) (e₀ : List ℕ) (c : Control) (r₀ : Rest) (n : ℕ) (m
         went = λ b j. went_on b n _ m (current d e r) o (omega arith) (l.went b (omega arith)) f refl;
       }
 
-  pub rush_ended : w.done ≡ false → RushOk m₀ e₀ c r₀ n m' e' w.rest
+  pub rush_ended : moves w.ending ≡ false → RushOk m₀ e₀ c r₀ n m' e' w.rest
   rush_ended g d hc good =
       let l = k d hc good in
       let q = s.not g in

@@ -3,11 +3,11 @@
 use Prim.Native.Nat.{ℕ, ◌+◌, ◌/◌, ◌%◌, ◌<◌, ◌≤◌}
 use mathlib.Core.Path.{◌≡◌, refl, sym, ap, ◌∙◌}
 use mathlib.Core.Logic.{◌≢◌}
-use mathlib.Core.Bool.{Bool, true, false, not, cond, ◌&&◌, ◌||◌, false≢true}
+use mathlib.Core.Bool.{Bool, true, false, cond, ◌&&◌, ◌||◌, false≢true}
 use mathlib.Core.List.{List, [], append-nil}
 use native.Mathlib.Omega.{arith}
 use native.Mathlib.Decide.{ℕ_discrete}
-use borrow.Author.Tests.{ne_eqb, eqb-true, eqb-false, ltb-false, not-true}
+use borrow.Author.Tests.{ne_eqb, eqb-true, eqb-false, ltb-false}
 use lib.Dec.{eqb, ltb}
 use lib.ListN.{length, set, length-set}
 use lib.Seq.{get_or-set_other}
@@ -20,9 +20,7 @@ use Rattle.paging.specs.declared.Marks.TheVariants.{None}
 use Rattle.paging.specs.declared.Physical.{Physical}
 use Rattle.keptpages.specs.declared.Kept.{Kept}
 use Rattle.paging.specs.Walked.{patches_of}
-use Rattle.keptpages.specs.declared.Settled.{Settled}
-use Rattle.keptpages.specs.declared.Settled.TheVariants.{Ready}
-use Rattle.keptpages.specs.Quiet.{Quiet, SettledOk, Agree, KeptOk, page_in, HeldOk}
+use Rattle.keptpages.specs.Quiet.{Quiet, Agree, KeptOk, page_in, HeldOk}
 use Rattle.access.specs.declared.Access.{Access}
 use Rattle.access.specs.Located.{asked, trail_marks, placed, puts, nowhere, Held}
 use Rattle.access.proofs.Laws.{nothing_held, near_held, byte_held}
@@ -212,9 +210,9 @@ module _ (m : Mem) (c : Control) (t : ℕ) (p : Fast) (i v : ℕ) where
   unfolding saved
   saved_all s = rw s
 
-  pub unsaved : stores p ≡ false → (m ≡ saved p i v m) × (true ≡ true → Spared m m c t)
+  pub unsaved : stores p ≡ false → (m ≡ saved p i v m) × ((true ≡ true) × (true ≡ true → Spared m m c t))
   unfolding saved
-  unsaved s = (rw s, λ _. (refl, (λ _ _. refl, λ _ _. refl)))
+  unsaved s = (rw s, (refl, λ _. (refl, (λ _ _. refl, λ _ _. refl))))
 
   spared : {m' : Mem} → m' ≡ patches (placed (spotted p i) v) m → (i / 4096 ≡ t → ⊥) → ((i + 3) / 4096 ≡ t → ⊥) → (i / 4096 ≡ dir_frame c → ⊥) → ((i + 3) / 4096 ≡ dir_frame c → ⊥)
       → Spared m m' c t
@@ -231,18 +229,14 @@ module _ (m : Mem) (c : Control) (t : ℕ) (p : Fast) (i v : ℕ) where
 
   -- the code's test of the frames
   pub sparing : {m' : Mem} → m' ≡ patches (placed (spotted p i) v) m
-      → not (eqb (i / 4096) t || eqb ((i + 3) / 4096) t || eqb (i / 4096) (dir_frame c) || eqb ((i + 3) / 4096) (dir_frame c)) ≡ true → Spared m m' c t
-  sparing e h = let n = apart_four _ _ _ _ (not-true _ h) in spared e n.0 n.1.0 n.1.1.0 n.1.1.1
+      → (eqb (i / 4096) t || eqb ((i + 3) / 4096) t || eqb (i / 4096) (dir_frame c) || eqb ((i + 3) / 4096) (dir_frame c)) ≡ false → Spared m m' c t
+  sparing e h = let n = apart_four _ _ _ _ h in spared e n.0 n.1.0 n.1.1.0 n.1.1.1
 
 -- ---- from the code's tests
 
 pub near_enough : (w : Bool) (x : ℕ) → (w && ltb 4092 x) ≡ false → w ≡ true → x ≤ 4092
 near_enough true x e h = ltb-false _ _ e
 near_enough false x e h = absurd (false≢true h)
-
--- the quick walk's answer, in the case at hand
-pub ready_at : {m : Mem} {c : Control} {w : Bool} {l : ℕ} {t : Settled} {i : ℕ} → t ≡ Ready i → SettledOk m c w l t → Quiet m c w l (record { 0 = i })
-ready_at e h = rw e at h
 
 -- pages of data stay where the next code page's entry is in their table
 pub same_table : (m : Mem) (c : Control) (d : List ℕ) (t : ℕ) (b : Bool) (k : Kept) → (b && eqb k.table t) ≡ true → (b ≡ true → HeldOk m c t d) → HeldOk m c k.table d

@@ -41,10 +41,12 @@ use Rattle.shortcut.proofs.Small.{and_left, and_right}
 use Rattle.phases.specs.declared.Planned.{Planned}
 use Rattle.hops.specs.declared.Rest.{Rest}
 use Rattle.hops.specs.declared.Sought.{Sought}
+use Rattle.hops.specs.declared.Ending.{Ending}
+use Rattle.hops.specs.declared.Ending.TheVariants as ends
 use Rattle.hops.specs.declared.Swift.{Swift}
 use Rattle.phases.specs.Step.{micro32}
 use Rattle.phases.specs.Planned.{left}
-use Rattle.hops.specs.Hops.{spotted, saved, Reaches, Spared, Left, PagesOk, current, SwiftOk}
+use Rattle.hops.specs.Hops.{moves, keeps, spotted, saved, Reaches, Spared, Left, PagesOk, current, SwiftOk}
 use Rattle.hops.proofs.Packed.{core_back, core_again}
 use Rattle.hops.proofs.Seeking.{none_reached, pages_move_on}
 use Rattle.phases.proofs.Plans.{ready}
@@ -62,7 +64,7 @@ saved_same p i v v' m h = by (stores p) h
 
 -- no access
 abbrev nowhere : Fast → Sought
-nowhere p = record { found = true; at = 0; value = 0; x = p.x; y = p.y }
+nowhere p = record { at = 0; value = 0; x = p.x; y = p.y }
 
 module _ (p : Fast) (h : p.access < 3) where
   no : (n : ℕ) → 3 ≤ n → asks n p ≡ false
@@ -205,7 +207,7 @@ of_operands p q s g eo = eo ∙ (λ j. out_of p.op p.wide (g.0 j) (g.1 j) s)
 module _ (m : Mem) (e : List ℕ) (c : Control) (t : ℕ) (p : Fast) (q : Sought) (o : Out) where
   -- nothing is stored, and the stack stays
   pub few_left : {e' : List ℕ} (r : Rest) → p.access < 3 → e' ≡ (deposit_of p (file e) o.value).e → r.eip ≡ p.next → status_in r.flags ≡ o.status
-      → Left m e c t p q o m e' (record { done = true; holds = true; rest = r })
+      → Left m e c t p q o m e' (record { ending = ends.Done; rest = r })
   few_left r k ee ei es = record {
     done = refl;
     memory = sym (few_saved p k q.at o.value m);
@@ -216,14 +218,14 @@ module _ (m : Mem) (e : List ℕ) (c : Control) (t : ℕ) (p : Fast) (q : Sought
   }
 
   -- the result goes to memory, and to no register
-  pub stored_left : {m' : Mem} (r : Rest) (g : Bool) → p.access ≡ 3 → p.to ≡ 8 → m' ≡ patches (placed (spotted p q.at) o.value) m → (g ≡ true → Spared m m' c t)
-      → r.eip ≡ p.next → status_in r.flags ≡ o.status → Left m e c t p q o m' e (record { done = true; holds = g; rest = r })
+  pub stored_left : {m' : Mem} (r : Rest) (g : Ending) → p.access ≡ 3 → p.to ≡ 8 → m' ≡ patches (placed (spotted p q.at) o.value) m → (moves g ≡ true) × (keeps g ≡ true → Spared m m' c t)
+      → r.eip ≡ p.next → status_in r.flags ≡ o.status → Left m e c t p q o m' e (record { ending = g; rest = r })
   unfolding saved stacked deposit_of
-  stored_left r g h k em es ei ef = record { done = refl; memory = em ∙ rw h; registers = rw (h, k); onward = ei ∙ rw h; flags = ef; spared = es }
+  stored_left r g h k em es ei ef = record { done = es.0; memory = em ∙ rw h; registers = rw (h, k); onward = ei ∙ rw h; flags = ef; spared = es.1 }
 
-  pub moved_left : {m' : Mem} {e' : List ℕ} (r : Rest) (g : Bool) → m' ≡ saved p q.at o.value m → (g ≡ true → Spared m m' c t) → e' ≡ (registers_after p (file e) o.value).e
-      → r.eip ≡ next_of p q.value → status_in r.flags ≡ o.status → Left m e c t p q o m' e' (record { done = true; holds = g; rest = r })
-  moved_left r g em es ee ei ef = record { done = refl; memory = em; registers = ee; onward = ei; flags = ef; spared = es }
+  pub moved_left : {m' : Mem} {e' : List ℕ} (r : Rest) (g : Ending) → m' ≡ saved p q.at o.value m → (moves g ≡ true) × (keeps g ≡ true → Spared m m' c t) → e' ≡ (registers_after p (file e) o.value).e
+      → r.eip ≡ next_of p q.value → status_in r.flags ≡ o.status → Left m e c t p q o m' e' (record { ending = g; rest = r })
+  moved_left r g em es ee ei ef = record { done = es.0; memory = em; registers = ee; onward = ei; flags = ef; spared = es.1 }
 
 -- the result by another name
 pub left_with : {m m' : Mem} {e e' : List ℕ} {c : Control} {t : ℕ} {p : Fast} {q : Sought} {w : Swift} {o o' : Out} → o ≡ o' → Left m e c t p q o m' e' w → Left m e c t p q o' m' e' w
@@ -246,7 +248,7 @@ tidy_few p t h = by (ltb p.access 4) refl
 -- ---- what the code's step answers
 
 module _ (m : Mem) (e : List ℕ) (c : Control) (r : Rest) (h : Kept) (d' : List ℕ) where
-  pub unmoved : PagesOk m c h d' → SwiftOk m e c r h m e d' (record { done = false; holds = true; rest = r })
+  pub unmoved : PagesOk m c h d' → SwiftOk m e c r h m e d' (record { ending = ends.Stuck; rest = r })
   unmoved kept = record { did = λ w. absurd (false≢true w); not = λ _. (refl, (refl, (refl, refl))); kept = λ _. kept }
 
   module _ (kept : KeptOk m c false h) (size : length m % 4096 ≡ 0) (small : r.eip < 4294967296) (page : r.eip / 4096 ≡ h.page) (room : r.eip % 4096 ≤ 4080) (i : ℕ) (p : Fast)
@@ -254,40 +256,40 @@ module _ (m : Mem) (e : List ℕ) (c : Control) (r : Rest) (h : Kept) (d' : List
     abbrev hop_fast : FastOk m e (status_in r.flags) r.eip (h.base + r.eip % 4096) p
     hop_fast = rw start at fast
 
-    pub hopped : (g : Bool) (q : Sought) → p.taken ≡ true → Reaches m c p q → q.value < 4294967296
+    pub hopped : (g : Ending) → moves g ≡ true → (q : Sought) → p.taken ≡ true → Reaches m c p q → q.value < 4294967296
         → {m' : Mem} {e' : List ℕ} {o : Out} → o ≡ result_of p q.value (status_in r.flags) → m' ≡ saved p q.at o.value m
-        → e' ≡ (registers_after p (file e) o.value).e → r'.eip ≡ next_of p q.value → status_in r'.flags ≡ o.status → (g ≡ true → PagesOk m' c h d')
-        → SwiftOk m e c r h m' e' d' (record { done = true; holds = g; rest = r' })
-    hopped g q taken found few {o = o} eo em ee ei es kept' = record {
+        → e' ≡ (registers_after p (file e) o.value).e → r'.eip ≡ next_of p q.value → status_in r'.flags ≡ o.status → (keeps g ≡ true → PagesOk m' c h d')
+        → SwiftOk m e c r h m' e' d' (record { ending = g; rest = r' })
+    hopped g done q taken found few {o = o} eo em ee ei es kept' = record {
       did = λ _ d hc good.
           let k : KeptOk m d.control false h = rw hc kept in
           quick_step m size e r h d k small page room p q (λ a. core_after p (from d e r p) a) (hop_fast.fits taken _ _ (view m d.control) (shown m size e r h d k small page room)) (rw hc found) few good
           o.value r' (λ _. ap (λ (x : Out). x.value) eo) em (advanced d e r p q.value r' eo ee ei es);
-      not = λ w. absurd (false≢true (sym w));
+      not = λ w. absurd (false≢true (sym w ∙ done));
       kept = kept';
     }
 
     -- nothing is stored, and the stack stays
     pub few_hopped : (q : Sought) → p.taken ≡ true → Reaches m c p q → q.value < 4294967296 → p.access < 3
         → {e' : List ℕ} {o : Out} → o ≡ result_of p q.value (status_in r.flags) → e' ≡ (deposit_of p (file e) o.value).e
-        → r'.eip ≡ p.next → status_in r'.flags ≡ o.status → PagesOk m c h d' → SwiftOk m e c r h m e' d' (record { done = true; holds = true; rest = r' })
+        → r'.eip ≡ p.next → status_in r'.flags ≡ o.status → PagesOk m c h d' → SwiftOk m e c r h m e' d' (record { ending = ends.Done; rest = r' })
     few_hopped q taken found few k {o = o} eo ee ei es kept' =
         let l = few_left m e c h.table p q o r' k ee ei es in
-        hopped true q taken found few eo l.memory l.registers l.onward l.flags (λ _. kept')
+        hopped ends.Done refl q taken found few eo l.memory l.registers l.onward l.flags (λ _. kept')
 
     -- an end of the code's
     pub landed : (q : Sought) → p.taken ≡ true → Reaches m c p q → q.value < 4294967296 → {m' : Mem} {e' : List ℕ} {w : Swift} {o : Out}
         → o ≡ out_of p.op p.wide q.x q.y (status_in r.flags) → Left m e c h.table p q o m' e' w → r' ≡ w.rest → PagesOk m c h d' → SwiftOk m e c r h m' e' d' w
     landed q taken found few {m'} {e'} {w} {o} eo left er pages =
         let out = of_operands p q (status_in r.flags) found.operands eo in
-        let s = hopped w.holds q taken found few out left.memory left.registers (ap (λ (x : Rest). x.eip) er ∙ left.onward) (ap (λ (x : Rest). status_in x.flags) er ∙ left.flags) (λ g. pages_move_on m m' c h d' (left.spared g) pages) in
+        let s = hopped w.ending left.done q taken found few out left.memory left.registers (ap (λ (x : Rest). x.eip) er ∙ left.onward) (ap (λ (x : Rest). status_in x.flags) er ∙ left.flags) (λ g. pages_move_on m m' c h d' (left.spared g) pages) in
         record {
-          did = λ _ d hc good. rw (← er) (s.did refl d hc good);
+          did = λ z d hc good. rw (← er) (s.did z d hc good);
           not = λ z. absurd (false≢true (sym z ∙ left.done));
           kept = s.kept;
         }
 
-    pub jumped : p.taken ≡ true → p.jumps ≡ true → r'.eip ≡ p.next → r'.flags ≡ r.flags → PagesOk m c h d' → SwiftOk m e c r h m e d' (record { done = true; holds = true; rest = r' })
+    pub jumped : p.taken ≡ true → p.jumps ≡ true → r'.eip ≡ p.next → r'.flags ≡ r.flags → PagesOk m c h d' → SwiftOk m e c r h m e d' (record { ending = ends.Done; rest = r' })
     jumped taken jumps ei ef kept' =
         let idle = fast.idle jumps in
         few_hopped (nowhere p) taken (none_reached m c p (nowhere p) idle.0 refl refl refl) (omega arith) (omega (arith, idle.0)) (sym (idle_result p idle 0 (status_in r.flags)))
@@ -296,7 +298,7 @@ module _ (m : Mem) (e : List ℕ) (c : Control) (r : Rest) (h : Kept) (d' : List
     -- MUL
     pub double_hopped : p.doubling ≡ true
         → {e' : List ℕ} → e' ≡ (with_register (with_register (file e) 0 (doubled_in p e (status_in r.flags)).low) 2 (doubled_in p e (status_in r.flags)).high).e
-        → r'.eip ≡ p.next → status_in r'.flags ≡ (doubled_in p e (status_in r.flags)).status → PagesOk m c h d' → SwiftOk m e c r h m e' d' (record { done = true; holds = true; rest = r' })
+        → r'.eip ≡ p.next → status_in r'.flags ≡ (doubled_in p e (status_in r.flags)).status → PagesOk m c h d' → SwiftOk m e c r h m e' d' (record { ending = ends.Done; rest = r' })
     unfolding doubled_after
     double_hopped doubling ee ei es kept' = record {
       did = λ _ d hc good.

@@ -1,6 +1,6 @@
 -- Quick steps: a step in its short form, on pages that are kept, where nothing can refuse and nothing is left to mark.
 -- Assumes nothing.
-use Rattle.std.specs.Prelude.{ℕ, ◌+◌, ◌-◌, ◌≤◌, ◌≡◌, true, false, cond, List, length}
+use Rattle.std.specs.Prelude.{ℕ, ◌+◌, ◌-◌, ◌≤◌, ◌≡◌, Bool, true, false, cond, List, length}
 use Rattle.alu.specs.declared.Out.{Out}
 use Rattle.alu.specs.Brief.{status_in}
 use Rattle.machine.specs.declared.Control.{Control}
@@ -20,10 +20,28 @@ use Rattle.outcome.specs.declared.Fast.{Fast}
 use Rattle.outcome.specs.Outcome.{file, asks, want_first, want_second, stores, left_of, right_of, registers_after, next_of}
 use Rattle.shortcut.specs.Shortcut.{core_from}
 use Rattle.hops.specs.declared.Rest.{Rest}
+use Rattle.hops.specs.declared.Ending.{Ending}
+use Rattle.hops.specs.declared.Ending.TheVariants as ends
 use Rattle.hops.specs.declared.Swift.{Swift}
 use Rattle.hops.specs.declared.Sought.{Sought}
 use Rattle.phases.specs.Step.{micro32}
 use Rattle.phases.specs.Planned.{access_marks}
+
+-- ---- how a step ended
+
+-- it was made
+abbrev pub moves : Ending → Bool
+moves ends.Follows = true
+moves ends.Stuck = false
+moves ends.Done = true
+moves ends.Remapped = true
+
+-- the pages that are kept hold on
+abbrev pub keeps : Ending → Bool
+keeps ends.Follows = true
+keeps ends.Stuck = true
+keeps ends.Done = true
+keeps ends.Remapped = false
 
 -- ---- the access
 
@@ -60,12 +78,12 @@ Spared m m' c t = (length m' ≡ length m) × ((Agree m m' (dir_frame c)) × (Ag
 -- what a step leaves whose access was found and whose result is o: memory, the registers, where it goes on, the flags; and if the maps hold on, they
 -- are as they were
 pub record Left (m : Mem) (e : List ℕ) (c : Control) (t : ℕ) (p : Fast) (q : Sought) (o : Out) (m' : Mem) (e' : List ℕ) (w : Swift) : Type 0 where
-  pub done : w.done ≡ true
+  pub done : moves w.ending ≡ true
   pub memory : m' ≡ saved p q.at o.value m
   pub registers : e' ≡ (registers_after p (file e) o.value).e
   pub onward : w.rest.eip ≡ next_of p q.value
   pub flags : status_in w.rest.flags ≡ o.status
-  pub spared : w.holds ≡ true → Spared m m' c t
+  pub spared : keeps w.ending ≡ true → Spared m m' c t
 
 -- the code page, and pages of data that have their entries in its table
 abbrev pub PagesOk : Mem → Control → Kept → List ℕ → Type 0
@@ -79,10 +97,10 @@ current d e r = with_core d (core_from e r.eip (status_in r.flags) (has 512 d.ef
 -- ---- one step, on the code page h: it is the definition's, or nothing is changed
 
 pub record SwiftOk (m : Mem) (e : List ℕ) (c : Control) (r : Rest) (h : Kept) (m' : Mem) (e' d' : List ℕ) (w : Swift) : Type 0 where
-  pub did : w.done ≡ true → (d : Cpu) → d.control ≡ c → sound m (current d e r) ≡ true
+  pub did : moves w.ending ≡ true → (d : Cpu) → d.control ≡ c → sound m (current d e r) ≡ true
       → record { reply = Done; cpu = current d e' w.rest; mem = m' } ≡ step micro32 m (current d e r)
-  pub not : w.done ≡ false → (m' ≡ m) × ((e' ≡ e) × ((w.rest.eip ≡ r.eip) × (w.rest.flags ≡ r.flags)))
-  pub kept : w.holds ≡ true → PagesOk m' c h d'
+  pub not : moves w.ending ≡ false → (m' ≡ m) × ((e' ≡ e) × ((w.rest.eip ≡ r.eip) × (w.rest.flags ≡ r.flags)))
+  pub kept : keeps w.ending ≡ true → PagesOk m' c h d'
 
 -- ---- n quick steps are n steps of the definition
 

@@ -1,7 +1,7 @@
 // One quick step: an instruction in its short form, on pages that are kept. Where it cannot go on it changes nothing.
 #![tactic(auto)]
 
-ghost use Rattle.std.specs.Prelude.{◌≢◌, ◌≡◌, true, false, cond, ◌+◌, ◌-◌, ◌*◌, ◌/◌, ◌%◌, ◌<◌, ◌≤◌, length, set, eqb};
+ghost use Rattle.std.specs.Prelude.{◌≢◌, ◌≡◌, true, cond, ◌+◌, ◌/◌, ◌%◌, ◌<◌, ◌≤◌, length, set, IfSome};
 ghost use Rattle.alu.specs.Brief.{status_in, out_in};
 ghost use Rattle.machine.specs.Record.{at};
 ghost use Rattle.machine.specs.Paging.{dword_at};
@@ -11,10 +11,11 @@ ghost use Rattle.keptpages.specs.Quiet.{HeldOk};
 ghost use Rattle.access.specs.Located.{placed};
 ghost use Rattle.outcome.specs.Outcome.{out_of, next_of};
 ghost use Rattle.shortcut.specs.Shortcut.{Tidy};
-ghost use Rattle.hops.specs.Hops.{saved, spotted, Holds, Reaches, Spared, Left, PagesOk, SwiftOk};
+ghost use Rattle.hops.specs.Hops.{moves, keeps, saved, spotted, Holds, Reaches, Spared, Left, PagesOk, SwiftOk};
+ghost use Rattle.hops.specs.declared.Ending.TheVariants as ends;
 
 use alu::brief::{Brief, Short};
-use keptpages::{Kept, Settled};
+use keptpages::Kept;
 use machine::Control;
 use outcome::Fast;
 
@@ -25,34 +26,77 @@ pub struct Rest {
     pub flags: Brief,
 }
 
-// What a quick step answers: is it done, do the pages that are kept hold on, and where the run stands.
+// How a quick step ended.
+#[derive(Clone, Copy)]
+pub enum Ending {
+    // Done, and the form after it in its block follows. Only forms of a block end so.
+    Follows,
+    // Not done, and nothing is changed.
+    Stuck,
+    // Done.
+    Done,
+    // Done, and the pages that are kept may be others.
+    Remapped,
+}
+
+impl Ending {
+    // Was the step made?
+    pub fn moves(self) -> bool
+        ensures { result ≡ moves self }
+    {
+        match self {
+            Ending::Stuck => false,
+            _ => true,
+        }
+    }
+
+    // Do the pages that are kept hold on?
+    pub fn keeps(self) -> bool
+        ensures { result ≡ keeps self }
+    {
+        match self {
+            Ending::Remapped => false,
+            _ => true,
+        }
+    }
+}
+
+// What a quick step answers: how it ended, and where the run stands.
 #[derive(Clone, Copy)]
 pub struct Swift {
-    pub done: bool,
-    pub holds: bool,
+    pub ending: Ending,
     pub rest: Rest,
 }
 
-// The access of an instruction: is it found; the index in memory and the value there; both operands.
+impl Swift {
+    // Not done, and nothing is changed.
+    pub fn stuck(rest: Rest) -> Swift
+        ensures { result ≡ record { ending = ends.Stuck; rest = rest } }
+    {
+        Swift {
+            ending: Ending::Stuck,
+            rest,
+        }
+    }
+
+    // The run goes on at eip.
+    pub fn onward(eip: u32, flags: Brief, ending: Ending) -> Swift
+        ensures { result ≡ record { ending = ending; rest = record { eip = eip; flags = flags } } }
+    {
+        Swift {
+            ending,
+            rest: Rest { eip, flags },
+        }
+    }
+}
+
+// The access of an instruction: the index in memory and the value there; both operands.
 #[derive(Clone, Copy)]
 struct Sought {
-    found: bool,
-    at: usize,
+    at: u32,
     value: u32,
     x: u32,
     y: u32,
-}
-
-fn unsought() -> Sought
-    ensures { (result.found ≡ false) × (result.at < 4294967296) }
-{
-    Sought {
-        found: false,
-        at: 0,
-        value: 0,
-        x: 0,
-        y: 0,
-    }
 }
 
 fn load(mem: &[u8], w: bool, i: u32) -> u32
@@ -64,66 +108,54 @@ fn load(mem: &[u8], w: bool, i: u32) -> u32
     paging::byte_at(mem, i as usize)
 }
 
-fn either(c: bool, a: u32, b: u32) -> u32
-    ensures { result ≡ cond c a b }
-{
-    if c { a } else { b }
-}
-
 // Reads what the instruction asks for at i; a push asks for nothing.
 fn loaded(mem: &[u8], p: Fast, i: u32) -> Sought
     requires { p.access ≢ 0 }
-    ensures { (result.found ≡ true) × ((result.at < 4294967296) × ((result.at ≡ i) × (Holds p (cond p.wide (dword_at mem.now i) (at mem.now i)) result))) }
+    ensures { (result.at ≡ i) × (Holds p (cond p.wide (dword_at mem.now i) (at mem.now i)) result) }
 {
     if p.access == 4 {
         return Sought {
-            found: true,
-            at: i as usize,
+            at: i,
             value: 0,
             x: p.x,
             y: p.y,
         };
     }
     let v = load(mem, p.wide, i);
+    if (p.access == 1) | (p.access == 3) {
+        return Sought {
+            at: i,
+            value: v,
+            x: v,
+            y: p.y,
+        };
+    }
     Sought {
-        found: true,
-        at: i as usize,
+        at: i,
         value: v,
-        x: either((p.access == 1) | (p.access == 3), v, p.x),
-        y: either((p.access == 1) | (p.access == 3), p.y, v),
+        x: p.x,
+        y: v,
     }
 }
 
 // Finds the access; memory is only read.
-fn seek(mem: &[u8], c: Control, d: &mut [u64], table: u32, p: Fast) -> Sought
+fn seek(mem: &[u8], c: Control, d: &mut [u64], table: u32, p: Fast) -> Option<Sought>
     requires { (length mem.now % 4096 ≡ 0) × (HeldOk mem.now c table d.old) }
-    ensures { (result.at < 4294967296) × ((result.value < 4294967296) × ((result.found ≡ true → Reaches mem.now c p result) × (HeldOk mem.now c table d.new))) }
+    ensures { (IfSome result (λ q. Reaches mem.now c p q)) × (HeldOk mem.now c table d.new) }
 {
     if p.access == 0 {
-        return Sought {
-            found: true,
+        return Some(Sought {
             at: 0,
             value: 0,
             x: p.x,
             y: p.y,
-        };
+        });
     }
     if p.wide & (4092 < p.at % 4096) {
-        return unsought();
+        return None;
     }
-    let q = keptpages::held::find(mem, c, d, table, (p.access == 3) | (p.access == 4), p.at);
-    let Settled::Ready(i) = q else {
-        return unsought();
-    };
-    loaded(mem, p, i)
-}
-
-fn put(mem: &mut [u8], i: usize, b: u8)
-    ensures { mem.new ≡ set mem.old i b }
-{
-    if i < mem.len() {
-        mem[i] = b;
-    }
+    let i = keptpages::held::find(mem, c, d, table, (p.access == 3) | (p.access == 4), p.at)?;
+    Some(loaded(mem, p, i))
 }
 
 // Stores a dword, where all of it is there.
@@ -137,50 +169,46 @@ pub fn put_present(mem: &mut [u8], i: usize, v: u32)
     mem[i + 3] = (v / 16777216 % 256) as u8;
 }
 
-pub fn put_dword(mem: &mut [u8], i: usize, v: u32)
-    requires { i < 4294967296 }
+pub fn put_dword(mem: &mut [u8], i: u32, v: u32)
     ensures { mem.new ≡ set (set (set (set mem.old i (v % 256)) (i + 1) (v / 256 % 256)) (i + 2) (v / 65536 % 256)) (i + 3) (v / 16777216 % 256) }
 {
-    if i + 3 < mem.len() {
-        put_present(mem, i, v);
+    if i as usize + 3 < mem.len() {
+        put_present(mem, i as usize, v);
         return;
     }
-    put(mem, i, (v % 256) as u8);
-    put(mem, i + 1, (v / 256 % 256) as u8);
-    put(mem, i + 2, (v / 65536 % 256) as u8);
-    put(mem, i + 3, (v / 16777216 % 256) as u8);
+    cells::put_dword(mem, i, v);
 }
 
-fn store_at(mem: &mut [u8], p: Fast, i: usize, v: u32)
-    requires { i < 4294967296 }
+fn store_at(mem: &mut [u8], p: Fast, i: u32, v: u32)
     ensures { mem.new ≡ patches (placed (spotted p i) v) mem.old }
 {
     if p.wide {
         put_dword(mem, i, v);
         return;
     }
-    put(mem, i, (v % 256) as u8);
+    cells::put(mem, i as usize, (v % 256) as u8);
 }
 
 // Stores the result; answers whether the maps are surely as they were.
-fn store(mem: &mut [u8], c: Control, table: u32, p: Fast, i: usize, v: u32) -> bool
-    requires { i < 4294967296 }
-    ensures { (mem.new ≡ patches (placed (spotted p i) v) mem.old) × (result ≡ true → Spared mem.old mem.new c table) }
+fn store(mem: &mut [u8], c: Control, table: u32, p: Fast, i: u32, v: u32) -> Ending
+    ensures { (mem.new ≡ patches (placed (spotted p i) v) mem.old) × ((moves result ≡ true) × (keeps result ≡ true → Spared mem.old mem.new c table)) }
 {
     store_at(mem, p, i, v);
-    let first = (i / 4096) as u32;
-    let last = ((i + 3) / 4096) as u32;
+    let first = i / 4096;
+    let last = ((i as usize + 3) / 4096) as u32;
     let dir = c.cr3 / 4096;
-    !((first == table) | (last == table) | (first == dir) | (last == dir))
+    if (first == table) | (last == table) | (first == dir) | (last == dir) {
+        return Ending::Remapped;
+    }
+    Ending::Done
 }
 
 // The same where the instruction asks for it.
-fn save(mem: &mut [u8], c: Control, table: u32, p: Fast, i: usize, v: u32) -> bool
-    requires { i < 4294967296 }
-    ensures { (mem.new ≡ saved p i v mem.old) × (result ≡ true → Spared mem.old mem.new c table) }
+fn save(mem: &mut [u8], c: Control, table: u32, p: Fast, i: u32, v: u32) -> Ending
+    ensures { (mem.new ≡ saved p i v mem.old) × ((moves result ≡ true) × (keeps result ≡ true → Spared mem.old mem.new c table)) }
 {
     if !((p.access == 3) | (p.access == 4)) {
-        return true;
+        return Ending::Done;
     }
     store(mem, c, table, p, i, v)
 }
@@ -189,26 +217,6 @@ fn next(p: Fast, a: u32) -> u32
     ensures { result ≡ next_of p a }
 {
     if p.access == 6 { a } else { p.next }
-}
-
-fn unmoved(r: Rest) -> Swift
-    ensures { result ≡ record { done = false; holds = true; rest = r } }
-{
-    Swift {
-        done: false,
-        holds: true,
-        rest: r,
-    }
-}
-
-fn moved(eip: u32, flags: Brief, holds: bool) -> Swift
-    ensures { result ≡ record { done = true; holds = holds; rest = record { eip = eip; flags = flags } } }
-{
-    Swift {
-        done: true,
-        holds,
-        rest: Rest { eip, flags },
-    }
 }
 
 // The end of a step whose result is o: it goes to a register, or to memory and to none. Only moves use the stack.
@@ -221,16 +229,16 @@ fn settle(
     q: Sought,
     o: Short,
 ) -> Swift
-    requires { (q.at < 4294967296) × ((p.access < 4) × (p.access ≡ 3 → p.to ≡ 8)) }
+    requires { (p.access < 4) × (p.access ≡ 3 → p.to ≡ 8) }
     ensures { Left mem.old e.old c table p q (out_in o) mem.new e.new result }
 {
     let g = o.flags;
     if p.access < 3 {
         outcome::deposit(e, p, o.value);
-        return moved(p.next, g, true);
+        return Swift::onward(p.next, g, Ending::Done);
     }
-    let holds = store(mem, c, table, p, q.at, o.value);
-    moved(p.next, g, holds)
+    let ending = store(mem, c, table, p, q.at, o.value);
+    Swift::onward(p.next, g, ending)
 }
 
 // The end of a step that moves the right operand; the flags stay.
@@ -243,17 +251,16 @@ fn settle_move(
     q: Sought,
     f: Brief,
 ) -> Swift
-    requires { q.at < 4294967296 }
     ensures { Left mem.old e.old c table p q (record { value = q.y; status = status_in f }) mem.new e.new result }
 {
     if p.access < 3 {
         outcome::deposit(e, p, q.y);
-        return moved(p.next, f, true);
+        return Swift::onward(p.next, f, Ending::Done);
     }
     outcome::restack(e, p);
     outcome::deposit(e, p, q.y);
-    let holds = save(mem, c, table, p, q.at, q.y);
-    moved(next(p, q.value), f, holds)
+    let ending = save(mem, c, table, p, q.at, q.y);
+    Swift::onward(next(p, q.value), f, ending)
 }
 
 // The end of a step whose operands are found. Moves of a dword, dwords and bytes each have an end of their own, so that the compiler asks once.
@@ -266,7 +273,7 @@ fn finish(
     q: Sought,
     f: Brief,
 ) -> Swift
-    requires { (q.at < 4294967296) × ((Tidy p) × ((q.x < 4294967296) × (q.y < 4294967296))) }
+    requires { Tidy p }
     ensures { Left mem.old e.old c table p q (out_of p.op p.wide q.x q.y (status_in f)) mem.new e.new result }
 {
     if (p.op == 9) & p.wide {
@@ -299,16 +306,15 @@ pub fn hop(
     if !p.taken {
         if p.doubling {
             let g = outcome::double(e, p, f);
-            return moved(p.next, g, true);
+            return Swift::onward(p.next, g, Ending::Done);
         }
-        return unmoved(r);
+        return Swift::stuck(r);
     }
     if p.jumps {
-        return moved(p.next, f, true);
+        return Swift::onward(p.next, f, Ending::Done);
     }
-    let q = seek(mem, c, d, h.table, p);
-    if !q.found {
-        return unmoved(r);
-    }
+    let Some(q) = seek(mem, c, d, h.table, p) else {
+        return Swift::stuck(r);
+    };
     finish(mem, e, c, h.table, p, q, f)
 }

@@ -1,14 +1,13 @@
 -- Pages of data that are kept: one that is found there, one more, and none. Assumes nothing.
-use Rattle.std.proofs.Common.{◌≡◌, ℕ, ◌+◌, ◌*◌, ◌/◌, ◌%◌, ◌<◌, ◌≤◌, Bool, true, false, leb, List, length, get_or, set, sym, refl, ap, ◌∙◌, arith, get_or-set_other, get_or-set_same, le-leb}
+use Rattle.std.proofs.Common.{◌≡◌, ℕ, ◌+◌, ◌*◌, ◌/◌, ◌%◌, ◌<◌, ◌≤◌, Bool, true, false, leb, List, length, set, refl, ap, ◌∙◌, arith, get_or-set_other, get_or-set_same, le-leb}
 use native.Mathlib.Decide.{ℕ_discrete, dec_lt}
 use borrow.Author.Tests.{lt-leb}
 use lib.ListN.{get_or-eq_default}
-use lib.Seq.{set-get_or, set_out}
+use lib.Seq.{set_out}
 use Rattle.machine.specs.declared.Control.{Control}
 use Rattle.machine.specs.Record.{Mem}
 use Rattle.keptpages.specs.declared.Kept.{Kept}
-use Rattle.keptpages.specs.declared.Settled.{Settled}
-use Rattle.keptpages.specs.Quiet.{Quiet, SettledOk, KeptOk, HeldOk, entry_in, page_in}
+use Rattle.keptpages.specs.Quiet.{Quiet, KeptOk, HeldOk, entry_in, page_in}
 use Rattle.keptpages.proofs.Settling.{no_page_ok}
 
 -- ---- a byte of a kept page
@@ -35,10 +34,6 @@ pub low_place : (x : ℕ) → leb 16 (x % 16) ≡ false
 low_place x = lt-leb 16 (x % 16) (omega arith)
 
 -- ---- the pages of data
-
--- within a list any default does
-pub any_default : (l : List ℕ) (n a b : ℕ) → n < length l → get_or l n a ≡ get_or l n b
-any_default l n a b h = ap (λ (z : List ℕ). get_or z n a) (sym (set-get_or l n b)) ∙ get_or-set_same l n (get_or l n b) a h
 
 module _ (m : Mem) (c : Control) (t : ℕ) where
   -- an entry is read as the page that it was made of
@@ -75,16 +70,3 @@ module _ (m : Mem) (c : Control) (t : ℕ) where
       by : Dec (k < length d) → entry_in d k ≡ 18446744073709551615
       by (yes l) = h k l
       by (no l) = get_or-eq_default d 18446744073709551615 (omega arith)
-
--- as far as it is cleared
-pub cleared_on : (d : List ℕ) (i : ℕ) → ((k : ℕ) → k < i → entry_in d k ≡ 18446744073709551615) → i < length d
-    → (k : ℕ) → k < i + 1 → entry_in (set d i 18446744073709551615) k ≡ 18446744073709551615
-cleared_on d i h l k s = by (ℕ_discrete k i)
-  where
-    by : Dec (k ≡ i) → entry_in (set d i 18446744073709551615) k ≡ 18446744073709551615
-    by (yes e) = rw e (get_or-set_same d i 18446744073709551615 18446744073709551615 l)
-    by (no e) = get_or-set_other d i k 18446744073709551615 18446744073709551615 e ∙ h k (omega arith)
-
--- what is known of a page, by the answer at hand
-pub settled_as : (m : Mem) (c : Control) (w : Bool) (l : ℕ) {q r : Settled} → q ≡ r → SettledOk m c w l q → SettledOk m c w l r
-settled_as m c w l e h = rw e at h

@@ -1,6 +1,6 @@
 -- Pages that can be used with nothing left to mark: what the quick way through a run asks of the maps.
 -- Assumes nothing.
-use Rattle.std.specs.Prelude.{◌≡◌, ℕ, ◌+◌, ◌/◌, ◌%◌, ◌<◌, ◌≤◌, Bool, false, not, ◌&&◌, ◌||◌, List, length, ◌==◌, nat_le, slice_index_or}
+use Rattle.std.specs.Prelude.{◌≡◌, ℕ, ◌+◌, ◌/◌, ◌%◌, ◌<◌, ◌≤◌, Bool, false, not, ◌&&◌, ◌||◌, List, length, ◌==◌, nat_le, slice_index_or, Option, Some, None}
 use Rattle.machine.specs.Record.{Mem, at, has, user, write_protect}
 use Rattle.machine.specs.declared.Control.{Control}
 use Rattle.machine.specs.Paging.{dword_at, slot, dir_frame, dir_index, tab_index}
@@ -10,8 +10,6 @@ use Rattle.paging.specs.declared.Marks.{Marks}
 use Rattle.paging.specs.declared.Translated.TheVariants.{Reached}
 use Rattle.keptpages.specs.declared.Pair.{Pair}
 use Rattle.keptpages.specs.declared.Kept.{Kept}
-use Rattle.keptpages.specs.declared.Settled.{Settled}
-use Rattle.keptpages.specs.declared.Settled.TheVariants.{Ready, Other}
 use Rattle.paging.specs.Walked.{Walked, patches_of}
 
 -- the byte at linear address l lies at p, and marking its page changes nothing
@@ -20,9 +18,10 @@ pub record Quiet (m : Mem) (c : Control) (w : Bool) (l : ℕ) (p : Physical) : T
   pub walked : Walked m c w l (Reached p entries)
   pub marked : patches (patches_of w entries) m ≡ m
 
-abbrev pub SettledOk : Mem → Control → Bool → ℕ → Settled → Type 0
-SettledOk m c w l (Ready p) = Quiet m c w l (record { 0 = p })
-SettledOk m c w l Other = Unit {0}
+-- where the byte at l lies, if it may be used as it is
+abbrev pub SettledOk : Mem → Control → Bool → ℕ → Option ℕ → Type 0
+SettledOk m c w l (Some p) = Quiet m c w l (record { 0 = p })
+SettledOk m c w l None = Unit {0}
 
 -- ---- the two entries of a page
 

@@ -3,30 +3,22 @@
 
 pub mod held;
 
-ghost use Rattle.std.specs.Prelude.{◌≡◌, true, false};
+ghost use Rattle.std.specs.Prelude.{◌≡◌, ◌/◌, true, IfSome};
 ghost use Rattle.machine.specs.Record.{paging};
 ghost use Rattle.keptpages.specs.Quiet.{Pairs, passes, usable, KeptOk};
 
 use machine::Control;
 
-// A byte that may be used as it is: where it lies in memory.
-#[derive(Clone, Copy)]
-pub enum Settled {
-    Ready(u32),
-    Other,
-}
-
 // The two entries of a page: where they lie, and what they hold.
 #[derive(Clone, Copy)]
 struct Pair {
-    pub found: bool,
     pub dir: u32,
     pub pde: u32,
     pub tab: u32,
     pub pte: u32,
 }
 
-// A page that is kept: its number (above any page's: none), where it begins in memory, and the frame of its table.
+// A page that is kept: its number, where it begins in memory, and the frame of its table.
 #[derive(Clone, Copy)]
 pub struct Kept {
     pub page: u32,
@@ -34,38 +26,20 @@ pub struct Kept {
     pub table: u32,
 }
 
-fn unfound() -> Pair
-    ensures { result.found ≡ false }
-{
-    Pair {
-        found: false,
-        dir: 0,
-        pde: 0,
-        tab: 0,
-        pte: 0,
-    }
-}
-
-fn entries(mem: &[u8], c: Control, l: u32) -> Pair
-    ensures { result.found ≡ true → Pairs mem.now c l result }
+fn entries(mem: &[u8], c: Control, l: u32) -> Option<Pair>
+    ensures { IfSome result (λ e. Pairs mem.now c l e) }
 {
     let dir = c.cr3 / 4096 * 4096 + l / 4194304 * 4;
     if mem.len() <= dir as usize + 3 {
-        return unfound();
+        return None;
     }
     let pde = paging::dword(mem, dir as usize);
     let tab = pde / 4096 * 4096 + l / 4096 % 1024 * 4;
     if mem.len() <= tab as usize + 3 {
-        return unfound();
+        return None;
     }
     let pte = paging::dword(mem, tab as usize);
-    Pair {
-        found: true,
-        dir,
-        pde,
-        tab,
-        pte,
-    }
+    Some(Pair { dir, pde, tab, pte })
 }
 
 fn passes(us: bool, rw: bool, d: bool, x: u32) -> bool
@@ -92,53 +66,39 @@ fn usable(c: Control, w: bool, e: Pair) -> bool
     passes(false, rw, false, e.pde) & passes(false, rw, w, e.pte)
 }
 
-// No page at all.
-fn no_page() -> Kept
-    ensures { result.page ≡ 4294967295 }
-{
-    Kept {
-        page: 4294967295,
-        base: 0,
-        table: 0,
-    }
-}
-
-fn mapped_page(mem: &[u8], c: Control, w: bool, l: u32) -> Kept
+fn mapped_page(mem: &[u8], c: Control, w: bool, l: u32) -> Option<Kept>
     requires { paging c ≡ true }
-    ensures { KeptOk mem.now c w result }
+    ensures { IfSome result (λ h. (h.page ≡ l / 4096) × (KeptOk mem.now c w h)) }
 {
-    let e = entries(mem, c, l);
-    if !e.found {
-        return no_page();
-    }
+    let e = entries(mem, c, l)?;
     if !usable(c, w, e) {
-        return no_page();
+        return None;
     }
     let base = e.pte / 4096 * 4096;
     if mem.len() < base as usize + 4096 {
-        return no_page();
+        return None;
     }
-    Kept {
+    Some(Kept {
         page: l / 4096,
         base,
         table: e.pde / 4096,
-    }
+    })
 }
 
 // The page of l, for reading or for writing, if it may be kept.
-pub fn page_of(mem: &[u8], c: Control, w: bool, l: u32) -> Kept
-    ensures { KeptOk mem.now c w result }
+pub fn page_of(mem: &[u8], c: Control, w: bool, l: u32) -> Option<Kept>
+    ensures { IfSome result (λ h. (h.page ≡ l / 4096) × (KeptOk mem.now c w h)) }
 {
     if c.cr0 / 2147483648 % 2 == 1 {
         return mapped_page(mem, c, w, l);
     }
     let base = l / 4096 * 4096;
     if mem.len() < base as usize + 4096 {
-        return no_page();
+        return None;
     }
-    Kept {
+    Some(Kept {
         page: l / 4096,
         base,
         table: 0,
-    }
+    })
 }

@@ -3,12 +3,12 @@
 
 ghost use Rattle.std.specs.Prelude.{◌≡◌, ℕ, ◌+◌, ◌*◌, ◌/◌, ◌%◌, ◌<◌, ◌≤◌, length, get_or, set};
 ghost use Rattle.machine.specs.Record.{digit, register, with_register, replaced, byte_register, with_byte, read_at, write_at, flags_in, pack, sound_at, core_of, with_core};
-ghost use Rattle.machine.specs.Replies.{is_done};
+ghost use Rattle.machine.specs.Replies.{is_done, numbered};
 
 use alu::Status;
 
 // What a step, a run or an audit answers. `numbered` in specs/Replies gives each its number.
-#[derive(Clone, Copy)]
+#[derive(Clone, Copy, PartialEq, Eq)]
 pub enum Reply {
     Done,
     Fault(u32, u32, u32),
@@ -23,15 +23,55 @@ pub enum Reply {
     Exposed(u32),
 }
 
+impl Reply {
+    #[tactic(auto, unfolding(crate::specs::Replies::numbered))]
+    pub fn number(self) -> u32
+        ensures { result ≡ (numbered self).number }
+    {
+        match self {
+            Reply::Done => 0,
+            Reply::Fault(_, _, _) => 1,
+            Reply::Trap(_, _) => 2,
+            Reply::Halt(_) => 3,
+            Reply::BadRecord => 4,
+            Reply::NoMemory(_) => 5,
+            Reply::NotBuilt(_) => 6,
+            Reply::Spent => 7,
+            Reply::Safe => 8,
+            Reply::TableOutside(_) => 9,
+            Reply::Exposed(_) => 10,
+        }
+    }
+
+    // The values that it carries, and zeros after them.
+    #[tactic(auto, unfolding(crate::specs::Replies::numbered))]
+    pub fn values(self) -> [u32; 3]
+        ensures first { get_or result 0 0 ≡ get_or (numbered self).carries 0 0 }
+        ensures second { get_or result 1 0 ≡ get_or (numbered self).carries 1 0 }
+        ensures third { get_or result 2 0 ≡ get_or (numbered self).carries 2 0 }
+    {
+        match self {
+            Reply::Fault(vector, code, address) => [vector, code, address],
+            Reply::Trap(vector, next) => [vector, next, 0],
+            Reply::Halt(next) => [next, 0, 0],
+            Reply::NoMemory(physical) => [physical, 0, 0],
+            Reply::NotBuilt(eip) => [eip, 0, 0],
+            Reply::TableOutside(index) => [index, 0, 0],
+            Reply::Exposed(page) => [page, 0, 0],
+            Reply::Done | Reply::BadRecord | Reply::Spent | Reply::Safe => [0, 0, 0],
+        }
+    }
+}
+
 // EAX ECX EDX EBX ESP EBP ESI EDI.
 #[repr(C)]
-#[derive(Clone, Copy)]
+#[derive(Clone, Copy, PartialEq, Eq)]
 pub struct Registers {
     pub e: [u32; 8],
 }
 
 // The flags that instructions read and write. IOPL stays where it is, in EFLAGS.
-#[derive(Clone, Copy)]
+#[derive(Clone, Copy, PartialEq, Eq)]
 pub struct Flags {
     pub status: Status,
     pub interrupt: bool,
@@ -39,7 +79,7 @@ pub struct Flags {
 }
 
 // All that an instruction can change of the record.
-#[derive(Clone, Copy)]
+#[derive(Clone, Copy, PartialEq, Eq)]
 pub struct Core {
     pub regs: Registers,
     pub eip: u32,
@@ -48,7 +88,7 @@ pub struct Core {
 
 // What no instruction of the build can change.
 #[repr(C)]
-#[derive(Clone, Copy)]
+#[derive(Clone, Copy, PartialEq, Eq)]
 pub struct Control {
     pub cr0: u32,
     pub cr2: u32,
@@ -58,7 +98,7 @@ pub struct Control {
 
 // The record: fourteen dwords, in this order for C too.
 #[repr(C)]
-#[derive(Clone, Copy)]
+#[derive(Clone, Copy, PartialEq, Eq)]
 pub struct Cpu {
     pub regs: Registers,
     pub eip: u32,
@@ -67,34 +107,15 @@ pub struct Cpu {
 }
 
 // An access that an instruction asks for: of a dword (true) or a byte, at a linear address. What is read and written is a Write.
-#[derive(Clone, Copy)]
+#[derive(Clone, Copy, PartialEq, Eq)]
 pub enum Want {
     Nothing,
     Read(bool, u32),
     Write(bool, u32),
 }
 
-fn element(a: &[u32], n: u32) -> u32
-    ensures { result ≡ get_or a.now n 0 }
-{
-    let i = n as usize;
-    if i < a.len() {
-        return a[i];
-    }
-    0
-}
-
-fn change(a: &mut [u32], n: u32, x: u32)
-    ensures { a.new ≡ set a.old n x }
-{
-    let i = n as usize;
-    if i < a.len() {
-        a[i] = x;
-    }
-}
-
 // A dword with one of its two low bytes replaced: the upper of them for codes 4 to 7.
-fn replaced(old: u32, n: u32, x: u32) -> u32
+pub fn replaced(old: u32, n: u32, x: u32) -> u32
     ensures { result ≡ replaced old n x }
 {
     if n / 4 % 2 == 1 {
@@ -108,28 +129,25 @@ impl Registers {
     pub fn read(self, n: u32) -> u32
         ensures { result ≡ register self n }
     {
-        let a = self.e;
-        element(&a, n)
+        self.e.get(n as usize).copied().unwrap_or(0)
     }
 
     // A byte register: 0 to 3 are the low bytes of EAX to EBX, 4 to 7 the bytes above them.
     pub fn read_byte(self, n: u32) -> u32
         ensures { result ≡ byte_register self n }
     {
-        let a = self.e;
+        let x = self.read(n % 4);
         if n / 4 % 2 == 1 {
-            return element(&a, n % 4) / 256 % 256;
+            return x / 256 % 256;
         }
-        element(&a, n % 4) % 256
+        x % 256
     }
 
     // The file with one dword register written.
     pub fn with(mut self, n: u32, x: u32) -> Registers
         ensures { result ≡ with_register self n x }
     {
-        let mut a = self.e;
-        change(&mut a, n, x);
-        self.e = a;
+        cells::put(&mut self.e, n as usize, x);
         self
     }
 
@@ -137,10 +155,8 @@ impl Registers {
     pub fn with_byte(mut self, n: u32, x: u32) -> Registers
         ensures { result ≡ with_byte self n x }
     {
-        let mut a = self.e;
-        let x = replaced(element(&a, n % 4), n, x);
-        change(&mut a, n % 4, x);
-        self.e = a;
+        let x = replaced(self.read(n % 4), n, x);
+        cells::put(&mut self.e, (n % 4) as usize, x);
         self
     }
 
@@ -169,25 +185,27 @@ pub fn weighed(c: bool, weight: u32) -> u32
     requires { weight ≤ 2048 }
     ensures { (result ≡ weight * digit c) × (result ≤ weight) }
 {
-    if c { weight } else { 0 }
+    weight * u32::from(c)
 }
 
 // The flags that EFLAGS holds.
-pub fn unpack(e: u32) -> Flags
-    ensures { result ≡ flags_in e }
-{
-    let status = Status {
-        cf: e % 2 == 1,
-        pf: e / 4 % 2 == 1,
-        af: e / 16 % 2 == 1,
-        zf: e / 64 % 2 == 1,
-        sf: e / 128 % 2 == 1,
-        of: e / 2048 % 2 == 1,
-    };
-    Flags {
-        status,
-        interrupt: e / 512 % 2 == 1,
-        direction: e / 1024 % 2 == 1,
+impl From<u32> for Flags {
+    ghost from_gives = { λ e f. f ≡ flags_in e };
+
+    #[tactic(auto, unfolding(crate::specs::Record::flags_in))]
+    fn from(e: u32) -> Flags {
+        Flags {
+            status: Status {
+                cf: e % 2 == 1,
+                pf: e / 4 % 2 == 1,
+                af: e / 16 % 2 == 1,
+                zf: e / 64 % 2 == 1,
+                sf: e / 128 % 2 == 1,
+                of: e / 2048 % 2 == 1,
+            },
+            interrupt: e / 512 % 2 == 1,
+            direction: e / 1024 % 2 == 1,
+        }
     }
 }
 
@@ -230,14 +248,15 @@ pub fn sound(n: usize, c: Cpu) -> bool
 }
 
 // What an instruction works on.
-pub fn core_of(c: Cpu) -> Core
-    ensures { result ≡ core_of c }
-{
-    let regs = c.regs;
-    Core {
-        regs,
-        eip: c.eip,
-        flags: unpack(c.eflags),
+impl From<Cpu> for Core {
+    ghost from_gives = { λ c k. k ≡ core_of c };
+
+    fn from(c: Cpu) -> Core {
+        Core {
+            regs: c.regs,
+            eip: c.eip,
+            flags: Flags::from(c.eflags),
+        }
     }
 }
 
@@ -245,19 +264,16 @@ pub fn core_of(c: Cpu) -> Core
 pub fn with_core(c: Cpu, k: Core) -> Cpu
     ensures { result ≡ with_core c k }
 {
-    let regs = k.regs;
-    let f = k.flags;
-    let control = c.control;
     Cpu {
-        regs,
+        regs: k.regs,
         eip: k.eip,
-        eflags: pack(c.eflags, f),
-        control,
+        eflags: pack(c.eflags, k.flags),
+        ..c
     }
 }
 
 pub fn is_done(q: Reply) -> bool
     ensures { result ≡ is_done q }
 {
-    if let Reply::Done = q { true } else { false }
+    matches!(q, Reply::Done)
 }

@@ -56,10 +56,10 @@ fn run_on(c: Cpu, mem: &mut [u8], t: &[u8; 512], g: &mut [u64; 4096], budget: u3
 {
     let mut n: u32 = 0;
     let mut d = c;
+    // Stays: a turn takes as many steps as there are quick ones, and no `for` counts so.
     while n < budget {
         let w = swift::dash(d, mem, t, g, budget - n);
-        let here = w.cpu;
-        d = here;
+        d = w.cpu;
         n += w.count;
         if budget <= n {
             return Ran {
@@ -69,13 +69,11 @@ fn run_on(c: Cpu, mem: &mut [u8], t: &[u8; 512], g: &mut [u64; 4096], budget: u3
             };
         }
         let s = phases::advance(d, mem, t);
-        let k = s.reply;
-        let e = s.cpu;
-        d = e;
-        let Reply::Done = k else {
+        d = s.cpu;
+        let Reply::Done = s.reply else {
             return Ran {
                 count: n,
-                reply: k,
+                reply: s.reply,
                 cpu: d,
             };
         };
@@ -115,84 +113,13 @@ pub fn audit(c: Cpu, mem: &[u8]) -> Reply
 fn answer_of(q: Reply, count: u32) -> Answer
     ensures { result ≡ answer_of q count }
 {
-    match q {
-        Reply::Done => Answer {
-            number: 0,
-            a: 0,
-            b: 0,
-            c: 0,
-            count,
-        },
-        Reply::Fault(vector, code, address) => Answer {
-            number: 1,
-            a: vector,
-            b: code,
-            c: address,
-            count,
-        },
-        Reply::Trap(vector, next) => Answer {
-            number: 2,
-            a: vector,
-            b: next,
-            c: 0,
-            count,
-        },
-        Reply::Halt(next) => Answer {
-            number: 3,
-            a: next,
-            b: 0,
-            c: 0,
-            count,
-        },
-        Reply::BadRecord => Answer {
-            number: 4,
-            a: 0,
-            b: 0,
-            c: 0,
-            count,
-        },
-        Reply::NoMemory(physical) => Answer {
-            number: 5,
-            a: physical,
-            b: 0,
-            c: 0,
-            count,
-        },
-        Reply::NotBuilt(eip) => Answer {
-            number: 6,
-            a: eip,
-            b: 0,
-            c: 0,
-            count,
-        },
-        Reply::Spent => Answer {
-            number: 7,
-            a: 0,
-            b: 0,
-            c: 0,
-            count,
-        },
-        Reply::Safe => Answer {
-            number: 8,
-            a: 0,
-            b: 0,
-            c: 0,
-            count,
-        },
-        Reply::TableOutside(index) => Answer {
-            number: 9,
-            a: index,
-            b: 0,
-            c: 0,
-            count,
-        },
-        Reply::Exposed(page) => Answer {
-            number: 10,
-            a: page,
-            b: 0,
-            c: 0,
-            count,
-        },
+    let [a, b, c] = q.values();
+    Answer {
+        number: q.number(),
+        a,
+        b,
+        c,
+        count,
     }
 }
 
@@ -201,18 +128,17 @@ fn run_answered(c: Cpu, mem: &mut [u8], budget: u32) -> Advanced
     ensures { record { answer = result.answer; cpu = result.cpu; mem = mem.new } ≡ ran_answered (run micro32 budget mem.old c) }
 {
     let r = run(c, mem, budget);
-    let q = r.reply;
-    let d = r.cpu;
-    let a = answer_of(q, r.count);
-    Advanced { cpu: d, answer: a }
+    Advanced {
+        cpu: r.cpu,
+        answer: answer_of(r.reply, r.count),
+    }
 }
 
 // The run for a host: the record is lent, and is advanced in place.
 pub fn micro32_run(cpu: &mut Cpu, mem: &mut [u8], budget: u32) -> Answer
     ensures { record { answer = result; cpu = cpu.new; mem = mem.new } ≡ ran_answered (run micro32 budget mem.old cpu.old) }
 {
-    let c = *cpu;
-    let w = run_answered(c, mem, budget);
+    let w = run_answered(*cpu, mem, budget);
     *cpu = w.cpu;
     w.answer
 }
@@ -221,6 +147,5 @@ pub fn micro32_run(cpu: &mut Cpu, mem: &mut [u8], budget: u32) -> Answer
 pub fn micro32_audit(cpu: Cpu, mem: &[u8]) -> Answer
     ensures { result ≡ answer_of (audit mem.now cpu) 0 }
 {
-    let q = audit(cpu, mem);
-    answer_of(q, 0)
+    answer_of(audit(cpu, mem), 0)
 }

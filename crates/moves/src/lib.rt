@@ -1,12 +1,11 @@
 // MOVZX, MOVSX, LEA, XCHG, SETcc, CWDE and CDQ.
-#![tactic(auto)]
+#![tactic(auto, unfolding(crate::specs::Moves::do_extend, crate::specs::Moves::do_address, crate::specs::Moves::do_swap, crate::specs::Moves::do_set, crate::specs::Moves::do_convert))]
 
 ghost use Rattle.std.specs.Prelude.{◌≡◌, ◌<◌};
 ghost use Rattle.machine.specs.Record.{digit};
 ghost use Rattle.conditions.specs.Conditions.{holds};
 ghost use Rattle.moves.specs.Moves.{extended, do_extend, do_address, do_swap, do_set, signed_word, signs, do_convert};
 
-use alu::Status;
 use encoding::Instruction;
 use machine::Core;
 use operands::Effect;
@@ -24,50 +23,32 @@ fn extended(op: u32, x: u32) -> u32
 pub fn extend(i: Instruction, k: Core, a: u32) -> Effect
     ensures { result ≡ do_extend i k a }
 {
-    let r = k.regs;
-    let x = extended(i.operation, operands::value(i, r, a) % 256);
-    operands::onward(i, k, r.with(i.register, x))
+    let x = extended(i.operation, operands::value(i, k.regs, a) % 256);
+    operands::onward(i, k, k.regs.with(i.register, x))
 }
 
 pub fn address(i: Instruction, k: Core) -> Effect
     ensures { result ≡ do_address i k }
 {
-    let r = k.regs;
-    let o = i.operand;
-    operands::onward(i, k, r.with(i.register, operands::address(r, o)))
+    let x = operands::address(k.regs, i.operand);
+    operands::onward(i, k, k.regs.with(i.register, x))
 }
 
 pub fn swap(i: Instruction, k: Core, a: u32) -> Effect
     ensures { result ≡ do_swap i k a }
 {
-    let r = k.regs;
-    let f = k.flags;
-    let x = operands::value(i, r, a);
-    let y = r.read_at(i.wide, i.register);
-    let q = operands::deposit(i, r, y);
-    operands::went(
-        q.write_at(i.wide, i.register, x),
-        operands::next(i, k),
-        f,
-        y,
-    )
-}
-
-// 1 where a condition holds, by its number.
-fn truth(n: u32, s: Status) -> u32
-    ensures { result ≡ digit (holds n s) }
-{
-    if conditions::condition(n, s) { 1 } else { 0 }
+    let x = operands::value(i, k.regs, a);
+    let y = k.regs.read_at(i.wide, i.register);
+    let regs = operands::deposit(i, k.regs, y).write_at(i.wide, i.register, x);
+    operands::went(regs, operands::next(i, k), k.flags, y)
 }
 
 pub fn set(i: Instruction, k: Core) -> Effect
     ensures { result ≡ do_set i k }
 {
-    let r = k.regs;
-    let f = k.flags;
-    let s = f.status;
-    let x = truth(i.operation, s);
-    operands::went(operands::deposit(i, r, x), operands::next(i, k), f, x)
+    let x = u32::from(conditions::condition(i.operation, k.flags.status));
+    let regs = operands::deposit(i, k.regs, x);
+    operands::went(regs, operands::next(i, k), k.flags, x)
 }
 
 fn signed_word(x: u32) -> u32
@@ -86,9 +67,10 @@ fn signs(x: u32) -> u32
 pub fn convert(i: Instruction, k: Core) -> Effect
     ensures { result ≡ do_convert i k }
 {
-    let r = k.regs;
+    let x = k.regs.read(0);
     if i.operation == 8 {
-        return operands::onward(i, k, r.with(0, signed_word(r.read(0) % 65536)));
+        operands::onward(i, k, k.regs.with(0, signed_word(x % 65536)))
+    } else {
+        operands::onward(i, k, k.regs.with(2, signs(x)))
     }
-    operands::onward(i, k, r.with(2, signs(r.read(0))))
 }

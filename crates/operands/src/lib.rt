@@ -1,5 +1,5 @@
 // Operands and effects: where an operand lies, what it is worth, what becomes of the record.
-#![tactic(auto)]
+#![tactic(auto, unfolding(crate::specs::Operands::address, crate::specs::Operands::operand_want, crate::specs::Operands::operand_value, crate::specs::Operands::deposit))]
 
 ghost use Rattle.std.specs.Prelude.{◌≡◌, ◌<◌, ◌≤◌};
 ghost use Rattle.operands.specs.Operands.{scaled, address, operand_want, operand_value, deposit, lowered, raised, next, target, went, refused, onward, advanced};
@@ -16,20 +16,16 @@ pub struct Effect {
     pub value: u32,
 }
 
-fn times(i: u32, s: u32) -> u64
-    ensures { (result ≡ scaled i s) × (result ≤ 34359738360) }
+// An index times its scale.
+pub fn scaled(x: u32, s: u32) -> u64
+    ensures { (result ≡ scaled x s) × (result ≤ 34359738360) }
 {
-    let x = i as u64;
-    if s == 1 {
-        return x;
+    match s {
+        1 => x as u64,
+        2 => 2 * x as u64,
+        4 => 4 * x as u64,
+        _ => 8 * x as u64,
     }
-    if s == 2 {
-        return 2 * x;
-    }
-    if s == 4 {
-        return 4 * x;
-    }
-    8 * x
 }
 
 // The effective address.
@@ -38,71 +34,72 @@ pub fn address(r: Registers, o: Operand) -> u32
 {
     let b = r.read(o.base);
     let i = r.read(o.index);
-    ((b as u64 + times(i, o.scale) + o.displacement as u64) % 4294967296) as u32
+    ((b as u64 + scaled(i, o.scale) + o.displacement as u64) % 4294967296) as u32
 }
 
 // The operand's access: none where it is a register.
 pub fn want(w: bool, i: Instruction, r: Registers) -> Want
     ensures { result ≡ operand_want w i r }
 {
-    let o = i.operand;
-    if o.direct {
+    if i.operand.direct {
         return Want::Nothing;
     }
+    let at = address(r, i.operand);
     if w {
-        return Want::Write(i.wide, address(r, o));
+        Want::Write(i.wide, at)
+    } else {
+        Want::Read(i.wide, at)
     }
-    Want::Read(i.wide, address(r, o))
 }
 
 // The operand's value, where a is what its access found.
 pub fn value(i: Instruction, r: Registers, a: u32) -> u32
     ensures { result ≡ operand_value i r a }
 {
-    let o = i.operand;
-    if o.direct {
-        return r.read_at(i.wide, o.register);
+    if i.operand.direct {
+        r.read_at(i.wide, i.operand.register)
+    } else {
+        a
     }
-    a
 }
 
 // The registers once x is put into the operand: memory is stored to apart.
 pub fn deposit(i: Instruction, r: Registers, x: u32) -> Registers
     ensures { result ≡ deposit i r x }
 {
-    let o = i.operand;
-    if o.direct {
-        return r.write_at(i.wide, o.register, x);
+    if i.operand.direct {
+        r.write_at(i.wide, i.operand.register, x)
+    } else {
+        r
     }
-    r
 }
 
 // ESP less four.
 pub fn lowered(r: Registers) -> u32
     ensures { result ≡ lowered r }
 {
-    std::num::wrapping_add_u32(r.read(4), 4294967292)
+    r.read(4).wrapping_sub(4)
 }
 
 // The registers with ESP four higher.
 pub fn raised(r: Registers) -> Registers
     ensures { result ≡ raised r }
 {
-    r.with(4, std::num::wrapping_add_u32(r.read(4), 4))
+    r.with(4, r.read(4).wrapping_add(4))
 }
 
 // EIP past the instruction.
 pub fn next(i: Instruction, k: Core) -> u32
     ensures { result ≡ next i k }
 {
-    std::num::wrapping_add_u32(k.eip, i.length)
+    k.eip.wrapping_add(i.length)
 }
 
 // Where a jump by x places leads.
 pub fn target(i: Instruction, k: Core, x: u32) -> u32
     ensures { result ≡ target i k x }
 {
-    std::num::wrapping_add_u32(next(i, k), x)
+    next(i, k).wrapping_add(x)
 }
 
 pub fn went(r: Registers, eip: u32, f: Flags, x: u32) -> Effect
@@ -133,19 +130,16 @@ pub fn refused(k: Core, q: Reply) -> Effect
 pub fn onward(i: Instruction, k: Core, r: Registers) -> Effect
     ensures { result ≡ onward i k r }
 {
-    let f = k.flags;
-    went(r, next(i, k), f, 0)
+    went(r, next(i, k), k.flags, 0)
 }
 
 // The same, with a status and a value to store.
 pub fn advanced(i: Instruction, k: Core, r: Registers, s: Status, x: u32) -> Effect
     ensures { result ≡ advanced i k r s x }
 {
-    let f = k.flags;
-    let g = Flags {
+    let flags = Flags {
         status: s,
-        interrupt: f.interrupt,
-        direction: f.direction,
+        ..k.flags
     };
-    went(r, next(i, k), g, x)
+    went(r, next(i, k), flags, x)
 }

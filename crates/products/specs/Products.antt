@@ -1,12 +1,11 @@
 -- MUL, IMUL, DIV and IDIV, over the width w in bits: signed numbers by sign and magnitude (document 01, "Flags and numbers").
 -- Assumes nothing.
-use Rattle.std.specs.Prelude.{ℕ, ◌+◌, ◌-◌, ◌*◌, ◌/◌, ◌%◌, ◌^◌, Bool, not, cond, ltb, leb, eqb}
+use Rattle.std.specs.Prelude.{ℕ, ◌+◌, ◌-◌, ◌*◌, ◌/◌, ◌%◌, ◌^◌, Bool, not, cond, ltb, leb, eqb, Option, Some, None}
 use Rattle.std.specs.Bool.{beq}
 use Rattle.alu.specs.declared.Status.{Status}
 use Rattle.alu.specs.Arithmetic.{top, sign, bits, low}
 use Rattle.products.specs.declared.Product.{Product}
-use Rattle.products.specs.declared.Quotient.{Quotient}
-use Rattle.products.specs.declared.Quotient.TheVariants.{Refused, Divided}
+use Rattle.products.specs.declared.Division.{Division}
 
 -- ---- signed numbers
 
@@ -48,19 +47,22 @@ product signed wide a b s =
 
 -- ---- quotients: n has 2 w bits; a divisor of 0 and a quotient that does not fit are refused
 
-abbrev pub unsigned_quotient : ℕ → ℕ → ℕ → Quotient
-unsigned_quotient w n d = cond (eqb d 0) Refused (cond (leb (2 ^ w) (n / d)) Refused (Divided (n / d) (n % d)))
+abbrev pub divided : ℕ → ℕ → Option Division
+divided q r = Some (record { quotient = q; remainder = r })
+
+abbrev pub unsigned_quotient : ℕ → ℕ → ℕ → Option Division
+unsigned_quotient w n d = cond (eqb d 0) None (cond (leb (2 ^ w) (n / d)) None (divided (n / d) (n % d)))
 
 -- rounded toward zero; the remainder has the dividend's sign
-abbrev pub signed_quotient : ℕ → ℕ → ℕ → Quotient
+abbrev pub signed_quotient : ℕ → ℕ → ℕ → Option Division
 signed_quotient w n d =
-    cond (eqb d 0) Refused
+    cond (eqb d 0) None
     (cond (fits w (not (beq (sign (w + w) n) (sign w d))) (magnitude (w + w) n / magnitude w d))
-    (Divided (number w (not (beq (sign (w + w) n) (sign w d))) (magnitude (w + w) n / magnitude w d))
+    (divided (number w (not (beq (sign (w + w) n) (sign w d))) (magnitude (w + w) n / magnitude w d))
     (number w (sign (w + w) n) (magnitude (w + w) n % magnitude w d)))
-    Refused)
+    None)
 
-unfoldable pub quotient : Bool → Bool → ℕ → ℕ → ℕ → Quotient
+unfoldable pub quotient : Bool → Bool → ℕ → ℕ → ℕ → Option Division
 quotient signed wide high low' d =
     cond signed (signed_quotient (bits wide) (low wide high * 2 ^ bits wide + low wide low') (low wide d))
     (unsigned_quotient (bits wide) (low wide high * 2 ^ bits wide + low wide low') (low wide d))

@@ -3,11 +3,13 @@
 
 ghost use Rattle.std.specs.Prelude.{◌≡◌, ◌≢◌, true, false, cond, ℕ, ◌+◌, ◌-◌, ◌*◌, ◌/◌, ◌%◌, ◌^◌, ◌<◌, ◌≤◌, ltb, leb};
 ghost use Rattle.alu.specs.declared.Status.{Status};
+ghost use Rattle.alu.specs.Arithmetic.{bits};
 ghost use Rattle.alu.specs.Brief.{status_in};
-ghost use Rattle.products.specs.Products.{carried, halves, unsigned_product, signed_product, product, unsigned_quotient, signed_quotient, quotient};
+ghost use Rattle.products.specs.Products.{carried, halves, product, unsigned_quotient, signed_quotient, quotient};
 
 use alu::Status;
 use alu::brief::Brief;
+use alu::word::Word;
 
 // The two halves of a product.
 #[derive(Clone, Copy)]
@@ -26,9 +28,9 @@ pub struct Halves {
 }
 
 #[derive(Clone, Copy)]
-pub enum Quotient {
-    Refused,
-    Divided(u32, u32),
+pub struct Division {
+    pub quotient: u32,
+    pub remainder: u32,
 }
 
 // Signed numbers, by the weight of the top bit: the magnitude of a.
@@ -67,176 +69,133 @@ struct Whole {
     carry: bool,
 }
 
-fn mul32(a: u32, b: u32) -> Whole
-    ensures { (s : Status) → halves 32 result.all (carried s result.carry) ≡ unsigned_product 32 a b s }
+#[tactic(auto, unfolding(crate::specs::Products::product))]
+fn mul<W: Word>(a: W, b: W) -> Whole
+    ensures { (result.all < 2 ^ (bits W.wide + bits W.wide)) × ((s : Status) → halves (bits W.wide) result.all (carried s result.carry) ≡ product false W.wide (W.number a) (W.number b) s) }
 {
-    let p = a as u64 * b as u64;
+    let p = u64::from(a.number()) * u64::from(b.number());
     Whole {
         all: p,
-        carry: 0x1_0000_0000 <= p,
+        carry: W::VALUES <= p,
     }
 }
 
-fn imul32(a: u32, b: u32) -> Whole
-    ensures { (s : Status) → halves 32 result.all (carried s result.carry) ≡ signed_product 32 a b s }
+fn imul<W: Word>(a: W, b: W) -> Whole
+    ensures { (result.all < 2 ^ (bits W.wide + bits W.wide)) × ((s : Status) → halves (bits W.wide) result.all (carried s result.carry) ≡ product true W.wide (W.number a) (W.number b) s) }
 {
-    let m = magnitude(0x8000_0000, a as u64) * magnitude(0x8000_0000, b as u64);
-    let negative = (0x8000_0000 <= a) != (0x8000_0000 <= b);
-    let kept = in_range(0x8000_0000, negative, m);
+    let top = W::VALUES / 2;
+    let (x, y) = (u64::from(a.number()), u64::from(b.number()));
+    let m = magnitude(top, x) * magnitude(top, y);
+    let negative = (top <= x) != (top <= y);
+    let kept = in_range(top, negative, m);
     Whole {
-        all: number(0x8000_0000_0000_0000, negative, m),
+        all: number(top * W::VALUES, negative, m),
         carry: !kept,
     }
 }
 
-fn product32(signed: bool, a: u32, b: u32) -> Whole
-    ensures { (s : Status) → halves 32 result.all (carried s result.carry) ≡ product signed true a b s }
+fn times<W: Word>(signed: bool, a: W, b: W) -> Whole
+    ensures { (result.all < 2 ^ (bits W.wide + bits W.wide)) × ((s : Status) → halves (bits W.wide) result.all (carried s result.carry) ≡ product signed W.wide (W.number a) (W.number b) s) }
 {
-    if signed {
-        return imul32(a, b);
-    }
-    mul32(a, b)
-}
-
-fn mul8(a: u8, b: u8) -> Whole
-    ensures { (result.all < 0x1_0000) × ((s : Status) → halves 8 result.all (carried s result.carry) ≡ unsigned_product 8 a b s) }
-{
-    let p = a as u64 * b as u64;
-    Whole {
-        all: p,
-        carry: 256 <= p,
-    }
-}
-
-fn imul8(a: u8, b: u8) -> Whole
-    ensures { (result.all < 0x1_0000) × ((s : Status) → halves 8 result.all (carried s result.carry) ≡ signed_product 8 a b s) }
-{
-    let m = magnitude(128, a as u64) * magnitude(128, b as u64);
-    let negative = (128 <= a) != (128 <= b);
-    let kept = in_range(128, negative, m);
-    Whole {
-        all: number(0x8000, negative, m),
-        carry: !kept,
-    }
-}
-
-fn product8(signed: bool, a: u32, b: u32) -> Whole
-    ensures { (result.all < 0x1_0000) × ((s : Status) → halves 8 result.all (carried s result.carry) ≡ product signed false a b s) }
-{
-    if signed {
-        return imul8((a % 256) as u8, (b % 256) as u8);
-    }
-    mul8((a % 256) as u8, (b % 256) as u8)
+    if signed { imul(a, b) } else { mul(a, b) }
 }
 
 fn carried(s: Status, b: bool) -> Status
     ensures { result ≡ carried s b }
 {
-    let mut r = s;
-    r.cf = b;
-    r.of = b;
-    r
+    Status { cf: b, of: b, ..s }
 }
 
-// The product of a and b, of bytes or dwords.
-pub fn multiply(signed: bool, wide: bool, a: u32, b: u32, s: Status) -> Product
-    ensures { result ≡ product signed wide a b s }
+fn multiply_at<W: Word>(signed: bool, a: W, b: W, s: Status) -> Product
+    ensures { result ≡ product signed W.wide (W.number a) (W.number b) s }
 {
-    if wide {
-        let w = product32(signed, a, b);
-        return Product {
-            low: (w.all % 0x1_0000_0000) as u32,
-            high: (w.all / 0x1_0000_0000) as u32,
-            status: carried(s, w.carry),
-        };
-    }
-    let w = product8(signed, a, b);
+    let w = times(signed, a, b);
     Product {
-        low: (w.all % 256) as u32,
-        high: (w.all / 256) as u32,
+        low: (w.all % W::VALUES) as u32,
+        high: (w.all / W::VALUES) as u32,
         status: carried(s, w.carry),
     }
 }
 
-// The product of dwords, with the flags in brief.
-pub fn multiply32(signed: bool, a: u32, b: u32, f: Brief) -> Halves
-    ensures { record { low = result.low; high = result.high; status = status_in result.flags } ≡ product signed true a b (status_in f) }
+// The product of a and b, of bytes or dwords.
+#[tactic(auto, using(crate::proofs::Bounds::product_low))]
+pub fn multiply(signed: bool, wide: bool, a: u32, b: u32, s: Status) -> Product
+    ensures { result ≡ product signed wide a b s }
 {
-    let w = product32(signed, a, b);
-    let flags = alu::brief::with_both(f, w.carry);
+    if wide {
+        multiply_at(signed, a, b, s)
+    } else {
+        multiply_at(signed, u8::low(a), u8::low(b), s)
+    }
+}
+
+// The product with the flags in brief.
+pub fn multiply_brief<W: Word>(signed: bool, a: W, b: W, f: Brief) -> Halves
+    ensures { record { low = result.low; high = result.high; status = status_in result.flags } ≡ product signed W.wide (W.number a) (W.number b) (status_in f) }
+{
+    let w = times(signed, a, b);
     Halves {
-        low: (w.all % 0x1_0000_0000) as u32,
-        high: (w.all / 0x1_0000_0000) as u32,
-        flags,
+        low: (w.all % W::VALUES) as u32,
+        high: (w.all / W::VALUES) as u32,
+        flags: alu::brief::with_both(f, w.carry),
     }
 }
 
-// DIV, by the number of values that the quotient may have.
-fn divide_unsigned(whole: u64, n: u64, d: u64) -> Quotient
-    requires { (d ≢ 0) × ((whole ≤ 0x1_0000_0000) × (d < 0x1_0000_0000)) }
-    ensures { (w : ℕ) → whole ≡ 2 ^ w → result ≡ unsigned_quotient w n d }
+fn div<W: Word>(n: u64, d: W) -> Option<Division>
+    requires { W.number d ≢ 0 }
+    ensures { result ≡ unsigned_quotient (bits W.wide) n (W.number d) }
 {
-    let q = n / d;
-    if whole <= q {
-        return Quotient::Refused;
+    let y = u64::from(d.number());
+    let q = n / y;
+    if W::VALUES <= q {
+        return None;
     }
-    Quotient::Divided(q as u32, (n % d) as u32)
+    Some(Division {
+        quotient: q as u32,
+        remainder: (n % y) as u32,
+    })
 }
 
-fn idiv32(n: u64, d: u32) -> Quotient
-    requires { d ≢ 0 }
-    ensures { result ≡ signed_quotient 32 n d }
+fn idiv<W: Word>(n: u64, d: W) -> Option<Division>
+    requires { (W.number d ≢ 0) × (n < 2 ^ (bits W.wide + bits W.wide)) }
+    ensures { result ≡ signed_quotient (bits W.wide) n (W.number d) }
 {
-    let m = magnitude(0x8000_0000_0000_0000, n);
-    let e = magnitude(0x8000_0000, d as u64);
+    let top = W::VALUES / 2;
+    let y = u64::from(d.number());
+    let m = magnitude(top * W::VALUES, n);
+    let e = magnitude(top, y);
     let q = m / e;
-    let below = 0x8000_0000_0000_0000 <= n;
-    let negative = below != (0x8000_0000 <= d);
-    if in_range(0x8000_0000, negative, q) {
-        let quotient = number(0x8000_0000, negative, q);
-        let rest = number(0x8000_0000, below, m % e);
-        return Quotient::Divided(quotient as u32, rest as u32);
+    let below = top * W::VALUES <= n;
+    let negative = below != (top <= y);
+    if !in_range(top, negative, q) {
+        return None;
     }
-    Quotient::Refused
+    let rest = number(top, below, m % e);
+    Some(Division {
+        quotient: number(top, negative, q) as u32,
+        remainder: rest as u32,
+    })
 }
 
-fn idiv8(n: u16, d: u8) -> Quotient
-    requires { d ≢ 0 }
-    ensures { result ≡ signed_quotient 8 n d }
+#[tactic(auto, using(crate::proofs::Bounds::by_zero))]
+fn divide_at<W: Word>(signed: bool, high: W, low: W, d: W) -> Option<Division>
+    ensures { result ≡ quotient signed W.wide (W.number high) (W.number low) (W.number d) }
 {
-    let m = magnitude(0x8000, n as u64);
-    let e = magnitude(128, d as u64);
-    let q = m / e;
-    let below = 0x8000 <= n;
-    let negative = below != (128 <= d);
-    if in_range(128, negative, q) {
-        let quotient = number(128, negative, q);
-        let rest = number(128, below, m % e);
-        return Quotient::Divided(quotient as u32, rest as u32);
+    if d.number() == 0 {
+        return None;
     }
-    Quotient::Refused
+    let n = u64::from(high.number()) * W::VALUES + u64::from(low.number());
+    if signed { idiv(n, d) } else { div(n, d) }
 }
 
-// The quotient and the remainder of high and low by d.
-pub fn divide(signed: bool, wide: bool, high: u32, low: u32, d: u32) -> Quotient
+// The quotient and the remainder of high and low by d; none where d is 0 or the quotient does not fit.
+#[tactic(auto, using(crate::proofs::Bounds::quotient_low))]
+pub fn divide(signed: bool, wide: bool, high: u32, low: u32, d: u32) -> Option<Division>
     ensures { result ≡ quotient signed wide high low d }
 {
     if wide {
-        if d == 0 {
-            return Quotient::Refused;
-        }
-        let n = high as u64 * 0x1_0000_0000 + low as u64;
-        if signed {
-            return idiv32(n, d);
-        }
-        return divide_unsigned(0x1_0000_0000, n, d as u64);
+        divide_at(signed, high, low, d)
+    } else {
+        divide_at(signed, u8::low(high), u8::low(low), u8::low(d))
     }
-    if d % 256 == 0 {
-        return Quotient::Refused;
-    }
-    let n = high % 256 * 256 + low % 256;
-    if signed {
-        return idiv8(n as u16, (d % 256) as u8);
-    }
-    divide_unsigned(256, n as u64, (d % 256) as u64)
 }

@@ -7,13 +7,13 @@ use mathlib.Core.Path.{◌≡◌, refl, sym, ap, ◌∙◌}
 use mathlib.Core.Bool.{Bool, true, false, cond}
 use lib.Dec.{leb, eqb}
 use lib.Pow.{pow-add, shr-shr, shr_le, mod-mod-pow}
-use lib.Bits.{bit_and, bit_xor, and_mask, xor_add_and, xor_zero_r, xor_lt}
+use lib.Bits.{bit_and, bit_xor, and_mask, xor_add_and, xor_zero_r}
 use borrow.Author.Tests.{le-leb, lt-leb, leb-true, leb-false, ne_eqb}
 use Rattle.alu.specs.declared.Status.{Status}
 use Rattle.alu.specs.declared.Out.{Out}
-use Rattle.alu.specs.Arithmetic.{signed_byte}
+use Rattle.alu.specs.Arithmetic.{bits, low}
+use Rattle.alu.specs.Word.{ShowsAlike}
 use Rattle.alu.specs.Brief.{seeing}
-use Rattle.alu.proofs.Showing.{byte_status}
 use Rattle.shifts.specs.Shifts.{times, left, right, shift_status, shifted}
 
 pow-suc : (v m : ℕ) → v * 2 ^ suc m ≡ v * 2 ^ m + v * 2 ^ m
@@ -30,6 +30,11 @@ shl_times w (suc m) v h =
 
 pub shl_wide : (j w m v : ℕ) → v < 2 ^ w → v * 2 ^ m % 2 ^ (j + w) % 2 ^ w ≡ times (left w) m v
 shl_wide j w m v h = mod-mod-pow (v * 2 ^ m) j w ∙ shl_times w m v h
+
+-- what is shifted out of a dword was above its low part
+pub shl_low : (wide : Bool) (m v : ℕ) → v < 2 ^ bits wide → low wide (v * 2 ^ m % 4294967296) ≡ times (left (bits wide)) m v
+shl_low true m v h = shl_wide 0 32 m v h
+shl_low false m v h = shl_wide 24 8 m v h
 
 div_suc : (v m : ℕ) → v / 2 ^ m / 2 ≡ v / 2 ^ suc m
 div_suc v m = shr-shr v m 1 ∙ ap (λ (k : ℕ). v / 2 ^ k) (add-one m)
@@ -72,24 +77,14 @@ sar_times k H m a t w h e = by (leb H a) refl e
         rw (q, flipped k a h, flipped k ((2 ^ k - 1 - a) / 2 ^ m) (omega arith), w) (sar_high H m a (leb-true _ _ p) (omega arith))
     by false p q = rw (q, xor_zero_r a, xor_zero_r (a / 2 ^ m)) (sar_low H m a (leb-false _ _ p))
 
-pub sar_lt : (k m a t : ℕ) → a < 2 ^ k → t < 2 ^ k → bit_xor (bit_xor a t / 2 ^ m) t < 2 ^ k
-sar_lt k m a t h g = xor_lt k (bit_xor a t / 2 ^ m) t (omega (arith, shr_le (bit_xor a t) m, xor_lt k a t h g)) g
-
 some_place : (n : ℕ) → 0 < n → eqb n 0 ≡ false
 some_place n h = ne_eqb n 0 (λ e. omega arith)
 
--- the answer r of some places, by the dword that shows it
-module _ (n : ℕ) (s : Status) (r : ℕ) (last one : Bool) (h : 0 < n) where
-  abbrev shown : ℕ → Out
-  shown seen = record { value = r; status = seeing last s.af (cond (eqb n 1) one s.of) seen }
-
-  pub dword_after : {o : Out} → o ≡ shown r → o ≡ record { value = r; status = shift_status 32 n s r last one }
-  unfolding shift_status
-  dword_after e = e ∙ simp (some_place n h)
-
-  pub byte_after : {o : Out} (x : ℕ) → r < 256 → x ≡ signed_byte r → o ≡ shown x → o ≡ record { value = r; status = shift_status 8 n s r last one }
-  unfolding shift_status
-  byte_after x k z e = e ∙ rw (z, byte_status last s.af (cond (eqb n 1) one s.of) r k, some_place n h)
+-- the status after some places
+pub status_after : (w n : ℕ) (s : Status) (r seen : ℕ) (last one : Bool) → 0 < n → ShowsAlike w seen r
+    → seeing last s.af (cond (eqb n 1) one s.of) seen ≡ shift_status w n s r last one
+unfolding shift_status
+status_after w n s r seen last one h a = rw (some_place n h, a.0, a.1.0, a.1.1)
 
 -- some places ask only for AF and OF of the status before
 pub depends : (op w n v : ℕ) (s t : Status) → 0 < n → s.af ≡ t.af → s.of ≡ t.of → shifted op w n v s ≡ shifted op w n v t

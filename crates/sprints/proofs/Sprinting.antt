@@ -3,7 +3,7 @@
 use Prim.Native.Nat.{ℕ, ◌+◌, ◌-◌, ◌/◌, ◌%◌, ◌<◌, ◌≤◌}
 use mathlib.Core.Path.{◌≡◌, refl, ap, ◌∙◌}
 use mathlib.Core.Logic.{◌≢◌}
-use mathlib.Core.Bool.{◌&&◌, ◌||◌, true, false}
+use mathlib.Core.Bool.{Bool, ◌&&◌, ◌||◌, not, true, false, true≢false}
 use mathlib.Core.List.{List}
 use native.Mathlib.Omega.{arith}
 use borrow.Author.Tests.{eqb-false}
@@ -14,11 +14,11 @@ use Rattle.machine.specs.Record.{Mem}
 use Rattle.machine.specs.Run.{End, steps}
 use Rattle.keptpages.specs.declared.Kept.{Kept}
 use Rattle.blocks.specs.Blocks.{Keyed, Known}
+use Rattle.hops.specs.declared.Ending.TheVariants as ends
 use Rattle.hops.specs.declared.Rest.{Rest}
 use Rattle.phases.specs.Step.{micro32}
-use Rattle.hops.specs.Hops.{PagesOk, current, after, RushOk}
+use Rattle.hops.specs.Hops.{keeps, PagesOk, current, after, RushOk}
 use Rattle.hops.proofs.Rushing.{rush_begun, split_test}
-use Rattle.shortcut.proofs.Small.{or_left, or_right}
 use Rattle.sprints.specs.declared.Traced.{Traced}
 use Rattle.sprints.specs.Sprints.{Before, TracedOk}
 
@@ -53,7 +53,7 @@ module _ (m₀ : Mem) (e₀ : List ℕ) (c : Control) (r₀ : Rest) (h : Kept) (
   off p = record { rushed = rush_begun m₀ e₀ c r₀; same = refl; pages = p }
 
   module _ (m : Mem) (e : List ℕ) (n : ℕ) (r : Rest) (z : Sprinted m₀ e₀ c r₀ h d m e n r) where
-    pub paused : TracedOk m₀ e₀ c r₀ h d m e (record { count = n; status = 0; rest = r })
+    pub paused : TracedOk m₀ e₀ c r₀ h d m e (record { count = n; ending = ends.Follows; rest = r })
     paused = record { rushed = z.rushed; size = z.same; kept = λ _. z.pages }
 
     -- the block's bytes are there
@@ -78,12 +78,14 @@ module _ (m₀ : Mem) (e₀ : List ℕ) (c : Control) (r₀ : Rest) (h : Kept) (
         }
 
     module _ (m' : Mem) (e' : List ℕ) (w : Traced) (t : TracedOk m e c r h d m' e' w) where
-      pub on : w.status ≢ 3 → Sprinted m₀ e₀ c r₀ h d m' e' (n + w.count) w.rest
+      pub on : keeps w.ending ≡ true → Sprinted m₀ e₀ c r₀ h d m' e' (n + w.count) w.rest
       on x = record { rushed = rush_joined m₀ e₀ c r₀ n m e r z.rushed w.count m' e' w.rest t.rushed; same = t.size ∙ z.same; pages = t.kept x }
 
-      pub done : TracedOk m₀ e₀ c r₀ h d m' e' (record { count = n + w.count; status = w.status; rest = w.rest })
+      pub done : TracedOk m₀ e₀ c r₀ h d m' e' (record { count = n + w.count; ending = w.ending; rest = w.rest })
       done = record { rushed = rush_joined m₀ e₀ c r₀ n m e r z.rushed w.count m' e' w.rest t.rushed; size = t.size ∙ z.same; kept = t.kept }
 
 -- the test after a block
-pub goes_on : (s n : ℕ) → (eqb s 1 || eqb s 3 || eqb n 0) ≡ false → (s ≢ 3) × (n ≢ 0)
-goes_on s n h = (eqb-false s 3 (or_right (eqb s 1) (eqb s 3) (or_left (eqb s 1 || eqb s 3) (eqb n 0) h)), eqb-false n 0 (or_right (eqb s 1 || eqb s 3) (eqb n 0) h))
+pub goes_on : (a b : Bool) (n : ℕ) → (not a || not b || eqb n 0) ≡ false → (b ≡ true) × (n ≢ 0)
+goes_on true true n h = (refl, eqb-false n 0 h)
+goes_on true false n h = absurd (true≢false h)
+goes_on false b n h = absurd (true≢false h)

@@ -2,25 +2,25 @@
 -- Assumes nothing.
 use Prim.Native.Nat.{ℕ, suc, ◌+◌, ◌*◌, ◌/◌, ◌%◌, ◌<◌, ◌≤◌}
 use mathlib.Core.Path.{◌≡◌, refl, ap, ◌∙◌}
-use mathlib.Core.Logic.{◌≢◌}
-use mathlib.Core.Bool.{not}
+use mathlib.Core.Bool.{true, false, true≢false}
 use mathlib.Core.List.{List}
 use native.Mathlib.Omega.{arith}
-use borrow.Author.Tests.{ne_eqb}
 use lib.ListN.{length, get_or}
 use Rattle.machine.specs.declared.Control.{Control}
-use Rattle.machine.specs.Record.{Mem, at, wrap}
+use Rattle.machine.specs.Record.{Mem, wrap}
 use Rattle.keptpages.specs.declared.Kept.{Kept}
 use Rattle.keptpages.specs.Quiet.{Agree}
 use Rattle.forms.specs.declared.Form.{Form}
 use Rattle.forms.specs.Forms.{Small}
 use Rattle.blocks.specs.Blocks.{unpacked, size_in, form_in, offset, Keyed}
 use Rattle.blocks.proofs.Keys.{asked_most}
+use Rattle.hops.specs.declared.Ending.{Ending}
+use Rattle.hops.specs.declared.Ending.TheVariants as ends
 use Rattle.hops.specs.declared.Rest.{Rest}
-use Rattle.hops.specs.Hops.{PagesOk, RushOk}
+use Rattle.hops.specs.declared.Swift.{Swift}
+use Rattle.hops.specs.Hops.{moves, keeps, PagesOk, RushOk}
 use Rattle.hops.proofs.Rushing.{rush_begun, rush_on, rush_ended}
-use Rattle.strides.specs.declared.Ended.{Ended}
-use Rattle.strides.specs.Strides.{Stands, Here, swift_in, EndedOk}
+use Rattle.strides.specs.Strides.{Stands, Here, EndedOk}
 use Rattle.sprints.specs.Sprints.{Before, TracedOk}
 
 -- a form of the table has room in it
@@ -30,6 +30,13 @@ unpacked_small k h = record { kind = omega arith; length = omega arith; a = omeg
 -- a block has few forms
 pub few_here : (m : Mem) (c : Control) (h : Kept) (d g : List ℕ) (r : Rest) (s : ℕ) → Before m c h d g r s → (size_in g s ≤ 23) × (s + 32 ≤ 4096)
 few_here m c h d g r s b = ((b.known s b.whole (omega (arith, b.within))).few, b.within)
+
+-- what is not done leaves the pages that are kept
+stuck_keeps : (a : Ending) → moves a ≡ false → keeps a ≡ true
+stuck_keeps ends.Follows h = refl
+stuck_keeps ends.Stuck h = refl
+stuck_keeps ends.Done h = refl
+stuck_keeps ends.Remapped h = absurd (true≢false h)
 
 -- where j forms are done
 pub record Along (m₀ : Mem) (e₀ : List ℕ) (c : Control) (r₀ : Rest) (h : Kept) (d g : List ℕ) (s : ℕ) (m : Mem) (e : List ℕ) (j : ℕ) (r : Rest) : Type 0 where
@@ -91,16 +98,16 @@ module _ (m₀ : Mem) (e₀ : List ℕ) (c : Control) (r₀ : Rest) (h : Kept) (
         place : (b x y o : ℕ) → o ≤ 48 → x % 4096 ≤ 4032 → y ≡ x + o → b + x % 4096 + o ≡ b + y % 4096
         place b x y o l w q = omega arith
 
-    module _ (f : Form) (m' : Mem) (e' : List ℕ) (w : Ended) (ended : EndedOk m e c r h d f m' e' w) (same_size : length m' ≡ length m) where
+    module _ (f : Form) (m' : Mem) (e' : List ℕ) (w : Swift) (ended : EndedOk m e c r h d f m' e' w) (same_size : length m' ≡ length m) where
       -- done, and the next form follows
-      pub follows : (k : ℕ) → k ≡ get_or g (s + 9 + j) 0 → f ≡ unpacked k → j < size_in g s → w.status ≡ 0 → Along m₀ e₀ c r₀ h d g s m' e' (j + 1) w.rest
+      pub follows : (k : ℕ) → k ≡ get_or g (s + 9 + j) 0 → f ≡ unpacked k → j < size_in g s → w.ending ≡ ends.Follows → Along m₀ e₀ c r₀ h d g s m' e' (j + 1) w.rest
       unfolding offset
       follows k ek ef l z =
           let n = ended.follows z in
           let q : f.length ≡ (form_in g s j).length = ap (λ (x : Form). x.length) (ef ∙ ap unpacked ek) in
           let v = at_first.stands.small in
           record {
-            rushed = rush_on m₀ e₀ c r₀ j m e r along.rushed h m' e' d (swift_in w) ended.swift (rw z);
+            rushed = rush_on m₀ e₀ c r₀ j m e r along.rushed h m' e' d w ended.swift (rw z);
             same = same_size ∙ along.same;
             pages = ended.swift.kept (rw z);
             eip = n.0 ∙ on _ _ _ f.length _ (near j l) at_first.wide v along.eip q (short f.length (form_in g s j).length q refl) ∙ more;
@@ -117,20 +124,20 @@ module _ (m₀ : Mem) (e₀ : List ℕ) (c : Control) (r₀ : Rest) (h : Kept) (
           on x y o a b l w v q u t = omega arith
 
       -- not done
-      pub stopped : w.status ≡ 1 → TracedOk m₀ e₀ c r₀ h d m' e' (record { count = j; status = 1; rest = w.rest })
+      pub stopped : moves w.ending ≡ false → TracedOk m₀ e₀ c r₀ h d m' e' (record { count = j; ending = ends.Stuck; rest = w.rest })
       stopped z = record {
-        rushed = rush_ended m₀ e₀ c r₀ j m e r along.rushed h m' e' d (swift_in w) ended.swift (rw z);
+        rushed = rush_ended m₀ e₀ c r₀ j m e r along.rushed h m' e' d w ended.swift z;
         size = same_size ∙ along.same;
-        kept = λ _. ended.swift.kept (rw z);
+        kept = λ _. ended.swift.kept (stuck_keeps w.ending z);
       }
 
       -- done, and no form follows
-      pub left : w.status ≢ 1 → TracedOk m₀ e₀ c r₀ h d m' e' (record { count = j + 1; status = w.status; rest = w.rest })
+      pub left : moves w.ending ≡ true → TracedOk m₀ e₀ c r₀ h d m' e' (record { count = j + 1; ending = w.ending; rest = w.rest })
       left z = record {
-        rushed = rush_on m₀ e₀ c r₀ j m e r along.rushed h m' e' d (swift_in w) ended.swift (ap not (ne_eqb w.status 1 z));
+        rushed = rush_on m₀ e₀ c r₀ j m e r along.rushed h m' e' d w ended.swift z;
         size = same_size ∙ along.same;
-        kept = λ q. ended.swift.kept (ap not (ne_eqb w.status 3 q));
+        kept = ended.swift.kept;
       }
 
-    pub through : TracedOk m₀ e₀ c r₀ h d m e (record { count = j; status = 0; rest = r })
+    pub through : TracedOk m₀ e₀ c r₀ h d m e (record { count = j; ending = ends.Follows; rest = r })
     through = record { rushed = along.rushed; size = along.same; kept = λ _. along.pages }

@@ -1,28 +1,39 @@
 // Blocks carried out one after another, as long as they lie on one code page.
 #![tactic(auto)]
 
-ghost use Rattle.std.specs.Prelude.{◌≡◌, cond, ◌%◌, ◌≤◌, length, ltb};
+ghost use Rattle.std.specs.Prelude.{◌≡◌, true, cond, ◌%◌, ◌≤◌, length, ltb};
 ghost use Rattle.encoding.specs.Encodings.{Classed};
 ghost use Rattle.blocks.specs.Blocks.{Known};
 ghost use Rattle.hops.specs.Hops.{PagesOk};
+ghost use Rattle.hops.specs.declared.Ending.TheVariants as ends;
 ghost use Rattle.sprints.specs.Sprints.{Before, TracedOk};
 
-use hops::Rest;
+use hops::{Ending, Rest};
 use keptpages::Kept;
 use machine::Control;
 
-// How many forms were done, how the last one ended (as in strides), and where the run stands.
+// How many forms were done, how the last one ended, and where the run stands.
 #[derive(Clone, Copy)]
 pub struct Traced {
     pub count: u32,
-    pub status: u32,
+    pub ending: Ending,
     pub rest: Rest,
 }
 
 fn least(a: u32, b: u32) -> u32
     ensures { (result ≡ cond (ltb a b) a b) × ((result ≤ a) × (result ≤ b)) }
 {
-    if a < b { a } else { b }
+    a.min(b)
+}
+
+// Does the block go on with its next form?
+fn goes_on(ending: Ending) -> bool
+    ensures { result ≡ true → ending ≡ ends.Follows }
+{
+    match ending {
+        Ending::Follows => true,
+        _ => false,
+    }
 }
 
 // The forms of the block at place s, as long as one follows the other, and at most so many.
@@ -41,32 +52,30 @@ fn trace(
     ensures { (result.count ≤ limit) × (TracedOk mem.old e.old c from h d.now mem.new e.new result) }
 {
     let size = least((g[s + 8] % 32) as u32, limit);
-    let mut j: u32 = 0;
     let mut r = from;
-    while j < size {
+    for j in 0..size {
         let f = blocks::unpack(g[s + 9 + j as usize]);
         let w = strides::carry_out(mem, e, d, c, r, h, f);
         let next = w.rest;
         r = next;
-        if w.status == 1 {
+        if !w.ending.moves() {
             return Traced {
                 count: j,
-                status: 1,
+                ending: Ending::Stuck,
                 rest: r,
             };
         }
-        j += 1;
-        if w.status != 0 {
+        if !goes_on(w.ending) {
             return Traced {
-                count: j,
-                status: w.status,
+                count: j + 1,
+                ending: w.ending,
                 rest: r,
             };
         }
     }
     Traced {
-        count: j,
-        status: 0,
+        count: size,
+        ending: Ending::Follows,
         rest: r,
     }
 }
@@ -91,7 +100,7 @@ pub fn sprint(
     if h.base % 4096 != 0 {
         return Traced {
             count: n,
-            status: 0,
+            ending: Ending::Follows,
             rest: r,
         };
     }
@@ -99,7 +108,7 @@ pub fn sprint(
         if !((r.eip / 4096 == h.page) & (r.eip % 4096 <= 4032)) {
             return Traced {
                 count: n,
-                status: 0,
+                ending: Ending::Follows,
                 rest: r,
             };
         }
@@ -109,17 +118,17 @@ pub fn sprint(
         n += w.count;
         let next = w.rest;
         r = next;
-        if (w.status == 1) | (w.status == 3) | (w.count == 0) {
+        if !w.ending.moves() | !w.ending.keeps() | (w.count == 0) {
             return Traced {
                 count: n,
-                status: w.status,
+                ending: w.ending,
                 rest: r,
             };
         }
     }
     Traced {
         count: n,
-        status: 0,
+        ending: Ending::Follows,
         rest: r,
     }
 }

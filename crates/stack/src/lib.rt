@@ -1,5 +1,5 @@
 // PUSH, POP, CALL and RET: a value that is pushed is stored by the second access.
-#![tactic(auto)]
+#![tactic(auto, unfolding(crate::specs::Stack::do_push, crate::specs::Stack::do_push_number, crate::specs::Stack::do_pop, crate::specs::Stack::do_call, crate::specs::Stack::do_call_to, crate::specs::Stack::do_return))]
 
 ghost use Rattle.std.specs.Prelude.{◌≡◌};
 ghost use Rattle.stack.specs.Stack.{pushed, do_push, do_push_number, do_pop, do_call, do_call_to, do_return};
@@ -12,16 +12,14 @@ use operands::Effect;
 fn pushed(k: Core, eip: u32, x: u32) -> Effect
     ensures { result ≡ pushed k eip x }
 {
-    let r = k.regs;
-    let f = k.flags;
-    operands::went(r.with(4, operands::lowered(r)), eip, f, x)
+    let top = operands::lowered(k.regs);
+    operands::went(k.regs.with(4, top), eip, k.flags, x)
 }
 
 pub fn push(i: Instruction, k: Core, a: u32) -> Effect
     ensures { result ≡ do_push i k a }
 {
-    let r = k.regs;
-    pushed(k, operands::next(i, k), operands::value(i, r, a))
+    pushed(k, operands::next(i, k), operands::value(i, k.regs, a))
 }
 
 pub fn push_number(i: Instruction, k: Core) -> Effect
@@ -33,14 +31,8 @@ pub fn push_number(i: Instruction, k: Core) -> Effect
 pub fn pop(i: Instruction, k: Core, a: u32) -> Effect
     ensures { result ≡ do_pop i k a }
 {
-    let r = k.regs;
-    let f = k.flags;
-    operands::went(
-        operands::deposit(i, operands::raised(r), a),
-        operands::next(i, k),
-        f,
-        a,
-    )
+    let regs = operands::deposit(i, operands::raised(k.regs), a);
+    operands::went(regs, operands::next(i, k), k.flags, a)
 }
 
 pub fn call(i: Instruction, k: Core) -> Effect
@@ -52,16 +44,13 @@ pub fn call(i: Instruction, k: Core) -> Effect
 pub fn call_to(i: Instruction, k: Core, a: u32) -> Effect
     ensures { result ≡ do_call_to i k a }
 {
-    let r = k.regs;
-    pushed(k, operands::value(i, r, a), operands::next(i, k))
+    pushed(k, operands::value(i, k.regs, a), operands::next(i, k))
 }
 
 // RET: to the address that was on the stack.
 pub fn back(i: Instruction, k: Core, a: u32) -> Effect
     ensures { result ≡ do_return i k a }
 {
-    let r = k.regs;
-    let f = k.flags;
-    let up = ((r.read(4) as u64 + 4 + i.immediate as u64) % 4294967296) as u32;
-    operands::went(r.with(4, up), a, f, 0)
+    let up = ((k.regs.read(4) as u64 + 4 + i.immediate as u64) % 4294967296) as u32;
+    operands::went(k.regs.with(4, up), a, k.flags, 0)
 }

@@ -1,6 +1,6 @@
 -- The forms that read or write memory: each is its instruction's quick step.
 -- Assumes nothing.
-use Rattle.std.proofs.Common.{◌≡◌, ℕ, ◌+◌, ◌-◌, ◌/◌, ◌%◌, ◌<◌, ◌≤◌, Bool, true, false, cond, not, ◌||◌, eqb, List, length, get_or, set, sym, refl, ap, ◌∙◌, arith, lt-ltb, ne_eqb, eqb-true}
+use Rattle.std.proofs.Common.{◌≡◌, ℕ, ◌+◌, ◌-◌, ◌/◌, ◌%◌, ◌<◌, ◌≤◌, Bool, true, false, cond, ◌||◌, eqb, List, length, get_or, set, sym, refl, ap, ◌∙◌, arith, lt-ltb, ne_eqb, eqb-true}
 use mathlib.Core.Bool.{false≢true}
 use Rattle.alu.specs.declared.Status.{Status}
 use Rattle.alu.specs.declared.Out.{Out}
@@ -21,12 +21,14 @@ use Rattle.shortcut.specs.Forms.{taking, push_fast, pop_fast}
 use Rattle.forms.specs.declared.Form.{Form}
 use Rattle.forms.specs.Forms.{reg, next_in, spot_in, target, working, by_memory, by_byte, meant}
 use Rattle.hops.specs.declared.Rest.{Rest}
-use Rattle.hops.specs.Hops.{saved, Holds, Reaches, Spared}
+use Rattle.hops.specs.Hops.{moves, keeps, saved, Holds, Reaches, Spared}
 use Rattle.hops.proofs.Seeking.{pushed, read, reached, put_there, saved_all, pages_move_on}
 use Rattle.hops.proofs.Swiftly.{hopped, of_operands, move_out}
-use Rattle.strides.specs.declared.Ended.{Ended}
+use Rattle.hops.specs.declared.Ending.{Ending}
+use Rattle.hops.specs.declared.Ending.TheVariants as ends
+use Rattle.hops.specs.declared.Swift.{Swift}
 use Rattle.strides.specs.Strides.{Stands, Here, EndedOk}
-use Rattle.strides.proofs.Parts.{Answers}
+use Rattle.strides.proofs.Parts.{done_apart, Answers}
 use Rattle.strides.proofs.Standing.{fast}
 
 first_of : (x y : Bool) → (x || y) ≡ true → y ≡ false → x ≡ true
@@ -74,9 +76,9 @@ module _ (f : Form) (e : List ℕ) (eip : ℕ) (s : Status) where
   unfolding meant
   moves_byte k = rw k
 
-  keeps : f.kind ≡ 64 → meant f e eip s ≡ working 9 true 3 (spot_in f e) (reg e f.b) (reg e f.a) 8 (next_in f eip)
+  keeping : f.kind ≡ 64 → meant f e eip s ≡ working 9 true 3 (spot_in f e) (reg e f.b) (reg e f.a) 8 (next_in f eip)
   unfolding meant
-  keeps k = rw k
+  keeping k = rw k
 
   pops : f.kind ≡ 67 → meant f e eip s ≡ pop_fast e 5 f.a (next_in f eip)
   unfolding meant
@@ -126,24 +128,24 @@ module _ (m : Mem) (e : List ℕ) (c : Control) (r : Rest) (h : Kept) (d : List 
 
   -- the access is found at index i, with the value u and the operands x and y
   found_near : (p : Fast) {l i : ℕ} (v u x y : ℕ) → l ≡ p.at → p.at < 4294967296 → (p.access ≡ 0 → ⊥) → (p.wide ≡ true → l % 4096 ≤ 4092) → AtHand h.table d (stores p) l i
-      → v ≡ cond p.wide (dword_at m i) (at m i) → Holds p v (record { found = true; at = i; value = u; x = x; y = y }) → Reaches m c p (record { found = true; at = i; value = u; x = x; y = y })
+      → v ≡ cond p.wide (dword_at m i) (at m i) → Holds p v (record { at = i; value = u; x = x; y = y }) → Reaches m c p (record { at = i; value = u; x = x; y = y })
   found_near p {l} {i} v u x y el small n room near ev k =
-      reached m c p stands.size small (record { 0 = i }) (rw el at (near m c stands.pages.1)) (record { found = true; at = i; value = u; x = x; y = y }) v n (λ z. rw el at (room z)) ev refl k
+      reached m c p stands.size small (record { 0 = i }) (rw el at (near m c stands.pages.1)) (record { at = i; value = u; x = x; y = y }) v n (λ z. rw el at (room z)) ev refl k
 
   module _ (here : Here m h r f) (known : (length e ≡ 8) × ((n : ℕ) → get_or e n 0 < 4294967296)) where
     -- the instruction p, with its access found
-    ended : (p : Fast) → meant f e r.eip s ≡ p → p.taken ≡ true → (i u x y : ℕ) → Reaches m c p (record { found = true; at = i; value = u; x = x; y = y }) → u < 4294967296
-        → {m' : Mem} {e' : List ℕ} {o : Out} (w : Ended) → o ≡ out_of p.op p.wide x y s → m' ≡ saved p i o.value m
+    ended : (p : Fast) → meant f e r.eip s ≡ p → p.taken ≡ true → (i u x y : ℕ) → Reaches m c p (record { at = i; value = u; x = x; y = y }) → u < 4294967296
+        → {m' : Mem} {e' : List ℕ} {o : Out} (w : Swift) → o ≡ out_of p.op p.wide x y s → m' ≡ saved p i o.value m
         → e' ≡ (registers_after p (file e) o.value).e → w.rest.eip ≡ next_of p u → status_in w.rest.flags ≡ o.status
-        → not (eqb w.status 1) ≡ true → (not (eqb w.status 3) ≡ true → Spared m m' c h.table)
-        → (w.status ≡ 0 → (w.rest.eip ≡ next_in f r.eip) × (Agree m m' (h.base / 4096))) → EndedOk m e c r h d f m' e' w
+        → moves w.ending ≡ true → (keeps w.ending ≡ true → Spared m m' c h.table)
+        → (w.ending ≡ ends.Follows → (w.rest.eip ≡ next_in f r.eip) × (Agree m m' (h.base / 4096))) → EndedOk m e c r h d f m' e' w
     ended p is taken i u x y found few {m'} w eo em ee ei es done spared after =
-        let k = hopped m e c r h d stands.pages.0 stands.size stands.small stands.page stands.room _ p refl (fast m e c r h d f here (known.1 f.b) known.0 p is) w.rest (not (eqb w.status 3))
-        (record { found = true; at = i; value = u; x = x; y = y }) taken found few (of_operands p (record { found = true; at = i; value = u; x = x; y = y }) s found.operands eo) em ee ei es
+        let k = hopped m e c r h d stands.pages.0 stands.size stands.small stands.page stands.room _ p refl (fast m e c r h d f here (known.1 f.b) known.0 p is) w.rest w.ending done
+        (record { at = i; value = u; x = x; y = y }) taken found few (of_operands p (record { at = i; value = u; x = x; y = y }) s found.operands eo) em ee ei es
         (λ g. pages_move_on m m' c h d (spared g) stands.pages) in
-        record { swift = rw done k; follows = λ z. ((after z).0, ((spared (holds z)).0, (after z).1)) }
+        record { swift = k; follows = λ z. ((after z).0, ((spared (holds z)).0, (after z).1)) }
       where
-        holds : w.status ≡ 0 → not (eqb w.status 3) ≡ true
+        holds : w.ending ≡ ends.Follows → keeps w.ending ≡ true
         holds z = rw z
 
     -- an operation by what lies in memory
@@ -153,11 +155,11 @@ module _ (m : Mem) (e : List ℕ) (c : Control) (r : Rest) (h : Kept) (d : List 
 
       worked : {l i : ℕ} → l ≡ spot_in f e → (wide ≡ true → l % 4096 ≤ 4092) → AtHand h.table d false l i → v ≡ cond wide (dword_at m i) (at m i) → v < 4294967296 → {e' : List ℕ} {o : Out} (b : Brief)
           → o ≡ out_of op wide x v s → e' ≡ (deposit_of reads (file e) o.value).e → next ≡ next_in f r.eip → status_in b ≡ o.status
-          → EndedOk m e c r h d f m e' (record { status = 0; rest = record { eip = next; flags = b } })
+          → EndedOk m e c r h d f m e' (record { ending = ends.Follows; rest = record { eip = next; flags = b } })
       unfolding saved stacked
       worked {l} {i} el room near ev few b eo ee en es =
           ended reads is refl i v x v (found_near reads v v x v el (omega arith) (none 0 refl) room near ev (read reads v _ (none 0 refl) (none 4 refl) refl refl refl)) few
-          (record { status = 0; rest = record { eip = next; flags = b } }) eo refl ee en es refl (λ _. (refl, (λ _ _. refl, λ _ _. refl))) (λ _. (en, λ _ _. refl))
+          (record { ending = ends.Follows; rest = record { eip = next; flags = b } }) eo refl ee en es refl (λ _. (refl, (λ _ _. refl, λ _ _. refl))) (λ _. (en, λ _ _. refl))
         where
           none : (n : ℕ) → (n % 4 ≡ 0) → 2 ≡ n → ⊥
           none n g z = omega (arith, g, z)
@@ -172,8 +174,8 @@ module _ (m : Mem) (e : List ℕ) (c : Control) (r : Rest) (h : Kept) (d : List 
 
     -- POP and RET
     popped : (k n v : ℕ) → 5 ≤ k → (eqb k 5 || eqb k 6) ≡ true → meant f e r.eip s ≡ pop_fast e k n (next_in f r.eip) → {l i : ℕ} → l ≡ reg e 4 → Near h.table d false l i → v ≡ dword_at m i
-        → v < 4294967296 → {e' : List ℕ} (w : Ended) → e' ≡ (deposit_of (pop_fast e k n (next_in f r.eip)) (file (set e 4 (wrap (reg e 4 + 4)))) v).e
-        → w.rest.eip ≡ cond (eqb k 6) v (next_in f r.eip) → status_in w.rest.flags ≡ s → not (eqb w.status 1) ≡ true → (w.status ≡ 0 → w.rest.eip ≡ next_in f r.eip)
+        → v < 4294967296 → {e' : List ℕ} (w : Swift) → e' ≡ (deposit_of (pop_fast e k n (next_in f r.eip)) (file (set e 4 (wrap (reg e 4 + 4)))) v).e
+        → w.rest.eip ≡ cond (eqb k 6) v (next_in f r.eip) → status_in w.rest.flags ≡ s → moves w.ending ≡ true → (w.ending ≡ ends.Follows → w.rest.eip ≡ next_in f r.eip)
         → EndedOk m e c r h d f m e' w
     unfolding saved stacked pop_fast
     popped k n v five top is {l} {i} el near ev few {e'} w ee ei es done after =
@@ -193,11 +195,11 @@ module _ (m : Mem) (e : List ℕ) (c : Control) (r : Rest) (h : Kept) (d : List 
 
     -- a dword is stored: MOV to memory, PUSH and CALL
     stored : (k l z v to i u x : ℕ) → meant f e r.eip s ≡ working 9 true k l z v 8 to → (eqb k 3 || eqb k 4) ≡ true → eqb k 6 ≡ false
-        → Reaches m c (working 9 true k l z v 8 to) (record { found = true; at = i; value = u; x = x; y = v }) → u < 4294967296 → x < 4294967296 → v < 4294967296 → {m' : Mem} {e' : List ℕ} (w : Ended)
+        → Reaches m c (working 9 true k l z v 8 to) (record { at = i; value = u; x = x; y = v }) → u < 4294967296 → x < 4294967296 → v < 4294967296 → {m' : Mem} {e' : List ℕ} (w : Swift)
         → m' ≡ set (set (set (set m i (v % 256)) (i + 1) (v / 256 % 256)) (i + 2) (v / 65536 % 256)) (i + 3) (v / 16777216 % 256)
         → e' ≡ (stacked (working 9 true k l z v 8 to) (file e)).e → w.rest.eip ≡ to → status_in w.rest.flags ≡ s
-        → not (eqb w.status 1) ≡ true → (not (eqb w.status 3) ≡ true → Spared m m' c h.table)
-        → (w.status ≡ 0 → (w.rest.eip ≡ next_in f r.eip) × (Agree m m' (h.base / 4096))) → EndedOk m e c r h d f m' e' w
+        → moves w.ending ≡ true → (keeps w.ending ≡ true → Spared m m' c h.table)
+        → (w.ending ≡ ends.Follows → (w.rest.eip ≡ next_in f r.eip) × (Agree m m' (h.base / 4096))) → EndedOk m e c r h d f m' e' w
     unfolding deposit_of
     stored k l z v to i u x is put six found few hx hv {m'} w em ee ei es done spared after =
         let p : Fast = working 9 true k l z v 8 to in
@@ -205,28 +207,28 @@ module _ (m : Mem) (e : List ℕ) (c : Control) (r : Rest) (h : Kept) (d : List 
         let on : w.rest.eip ≡ next_of p u = rw six ei in
         ended p is refl i u x v found few w (move_out 9 x v true s hx hv refl) kept ee on es done spared after
 
-    pub kept : f.kind ≡ 64 → ((n : ℕ) → at m n < 256) → {l i v n next : ℕ} → l ≡ spot_in f e → Near h.table d true l i → v ≡ reg e f.a → {m' : Mem}
+    pub kept : f.kind ≡ 64 → ((n : ℕ) → at m n < 256) → {l i v next : ℕ} {n : Ending} → l ≡ spot_in f e → Near h.table d true l i → v ≡ reg e f.a → {m' : Mem}
         → m' ≡ set (set (set (set m i (v % 256)) (i + 1) (v / 256 % 256)) (i + 2) (v / 65536 % 256)) (i + 3) (v / 16777216 % 256)
         → Answers m m' c h.table (h.base / 4096) n → next ≡ next_in f r.eip
-        → EndedOk m e c r h d f m' e (record { status = n; rest = record { eip = next; flags = r.flags } })
+        → EndedOk m e c r h d f m' e (record { ending = n; rest = record { eip = next; flags = r.flags } })
     unfolding stacked
-    kept k bytes {l} {i} {v} {n} {next} el near ev em told en =
+    kept k bytes {l} {i} {v} {next} {n} el near ev em told en =
         let p : Fast = working 9 true 3 (spot_in f e) (reg e f.b) v 8 (next_in f r.eip) in
-        let is : meant f e r.eip s ≡ p = rw ev (keeps f e r.eip s k) in
+        let is : meant f e r.eip s ≡ p = rw ev (keeping f e r.eip s k) in
         stored 3 (spot_in f e) (reg e f.b) v (next_in f r.eip) i (dword_at m i) (dword_at m i) is refl refl
         (found_near p (dword_at m i) (dword_at m i) (dword_at m i) v el (omega arith) (none 0 refl) (λ _. near.0) near.1 refl (read p (dword_at m i) _ (none 0 refl) (none 4 refl) refl refl refl))
-        (dword_small m i bytes) (dword_small m i bytes) (rw ev (known.1 f.a)) (record { status = n; rest = record { eip = next; flags = r.flags } })
+        (dword_small m i bytes) (dword_small m i bytes) (rw ev (known.1 f.a)) (record { ending = n; rest = record { eip = next; flags = r.flags } })
         em refl en refl told.1.1 told.0 (λ z. (en, told.1.0 z))
       where
         none : (n : ℕ) → n % 4 ≡ 0 → 3 ≡ n → ⊥
         none n g z = omega (arith, g, z)
 
     -- v is pushed, and the program goes on at `to`
-    pushed_on : (to v : ℕ) → meant f e r.eip s ≡ push_fast e v to → v < 4294967296 → {l i : ℕ} → l ≡ wrap (reg e 4 + 4294967292) → Near h.table d true l i → {m' : Mem} {e' : List ℕ} (w : Ended)
+    pushed_on : (to v : ℕ) → meant f e r.eip s ≡ push_fast e v to → v < 4294967296 → {l i : ℕ} → l ≡ wrap (reg e 4 + 4294967292) → Near h.table d true l i → {m' : Mem} {e' : List ℕ} (w : Swift)
         → m' ≡ set (set (set (set m i (v % 256)) (i + 1) (v / 256 % 256)) (i + 2) (v / 65536 % 256)) (i + 3) (v / 16777216 % 256)
         → e' ≡ set e 4 l → w.rest.eip ≡ to → w.rest.flags ≡ r.flags
-        → not (eqb w.status 1) ≡ true → (not (eqb w.status 3) ≡ true → Spared m m' c h.table)
-        → (w.status ≡ 0 → (w.rest.eip ≡ next_in f r.eip) × (Agree m m' (h.base / 4096))) → EndedOk m e c r h d f m' e' w
+        → moves w.ending ≡ true → (keeps w.ending ≡ true → Spared m m' c h.table)
+        → (w.ending ≡ ends.Follows → (w.rest.eip ≡ next_in f r.eip) × (Agree m m' (h.base / 4096))) → EndedOk m e c r h d f m' e' w
     unfolding stacked push_fast
     pushed_on to v is hv {l} {i} el near w em ee ei es done spared after =
         let p : Fast = push_fast e v to in
@@ -239,8 +241,8 @@ module _ (m : Mem) (e : List ℕ) (c : Control) (r : Rest) (h : Kept) (d : List 
 
     -- ---- the code's ends
 
-    abbrev done_at : ℕ → Brief → Ended
-    done_at next b = record { status = 0; rest = record { eip = next; flags = b } }
+    abbrev done_at : ℕ → Brief → Swift
+    done_at next b = record { ending = ends.Follows; rest = record { eip = next; flags = b } }
 
     module _ {l i next : ℕ} (el : l ≡ spot_in f e) (near : Near h.table d false l i) (en : next ≡ next_in f r.eip) where
       pub loaded : f.kind ≡ 41 → {v : ℕ} {e' : List ℕ} → v ≡ dword_at m i → v < 4294967296 → e' ≡ set e f.a v → EndedOk m e c r h d f m e' (done_at next r.flags)
@@ -302,39 +304,33 @@ module _ (m : Mem) (e : List ℕ) (c : Control) (r : Rest) (h : Kept) (d : List 
           popped 5 f.a v (omega arith) refl (pops f e r.eip s k) el near ev few (done_at next r.flags)
           (rw (lt-ltb f.a 8 here.1.a) (ee' ∙ ap (λ (z : List ℕ). set z f.a v) raised)) en refl refl (λ _. en)
 
-      pub returned : f.kind ≡ 70 → EndedOk m e c r h d f m e₁ (record { status = 2; rest = record { eip = v; flags = r.flags } })
+      pub returned : f.kind ≡ 70 → EndedOk m e c r h d f m e₁ (record { ending = ends.Done; rest = record { eip = v; flags = r.flags } })
       unfolding deposit_of pop_fast
       returned k =
-          popped 6 8 v (omega arith) refl (goes_back f e r.eip s k) el near ev few (record { status = 2; rest = record { eip = v; flags = r.flags } }) raised refl refl refl (λ z. absurd (apart z))
-        where
-          apart : ◌≡◌ {A = ℕ} 2 0 → ⊥
-          apart z = omega (arith, z)
+          popped 6 8 v (omega arith) refl (goes_back f e r.eip s k) el near ev few (record { ending = ends.Done; rest = record { eip = v; flags = r.flags } }) raised refl refl refl (λ z. absurd (done_apart z))
 
-    module _ {x l i v n next : ℕ} {m' : Mem} {e' : List ℕ} (ex : x ≡ reg e 4) (el : l ≡ wrap (x + 4294967292)) (near : Near h.table d true l i)
+    module _ {x l i v next : ℕ} {n : Ending} {m' : Mem} {e' : List ℕ} (ex : x ≡ reg e 4) (el : l ≡ wrap (x + 4294967292)) (near : Near h.table d true l i)
         (few : v < 4294967296)
         (em : m' ≡ set (set (set (set m i (v % 256)) (i + 1) (v / 256 % 256)) (i + 2) (v / 65536 % 256)) (i + 3) (v / 16777216 % 256)) (ee : e' ≡ set e 4 l)
         (told : Answers m m' c h.table (h.base / 4096) n) (en : next ≡ next_in f r.eip) where
       lowered : l ≡ wrap (reg e 4 + 4294967292)
       lowered = el ∙ ap (λ (z : ℕ). wrap (z + 4294967292)) ex
 
-      pub pushed_to : meant f e r.eip s ≡ push_fast e v (next_in f r.eip) → EndedOk m e c r h d f m' e' (record { status = n; rest = record { eip = next; flags = r.flags } })
+      pub pushed_to : meant f e r.eip s ≡ push_fast e v (next_in f r.eip) → EndedOk m e c r h d f m' e' (record { ending = n; rest = record { eip = next; flags = r.flags } })
       pushed_to is =
-          pushed_on (next_in f r.eip) v is few lowered near (record { status = n; rest = record { eip = next; flags = r.flags } }) em ee en refl
+          pushed_on (next_in f r.eip) v is few lowered near (record { ending = n; rest = record { eip = next; flags = r.flags } }) em ee en refl
           told.1.1 told.0 (λ z. (en, told.1.0 z))
 
       -- CALL, where the code's status is n or, for 0, 2
       module _ (k : f.kind ≡ 68) (ev : v ≡ next) {to : ℕ} (et : to ≡ wrap (next + f.number)) where
-        called : (a : ℕ) → not (eqb a 1) ≡ true → (not (eqb a 3) ≡ true → Spared m m' c h.table) → (a ≡ 0 → ⊥)
-            → EndedOk m e c r h d f m' e' (record { status = a; rest = record { eip = to; flags = r.flags } })
+        called : (a : Ending) → moves a ≡ true → (keeps a ≡ true → Spared m m' c h.table) → (a ≡ ends.Follows → ⊥)
+            → EndedOk m e c r h d f m' e' (record { ending = a; rest = record { eip = to; flags = r.flags } })
         called a one three none =
-            pushed_on (target f r.eip) v (calls f e r.eip s k (ev ∙ en)) few lowered near (record { status = a; rest = record { eip = to; flags = r.flags } }) em ee
+            pushed_on (target f r.eip) v (calls f e r.eip s k (ev ∙ en)) few lowered near (record { ending = a; rest = record { eip = to; flags = r.flags } }) em ee
             (et ∙ ap (λ (z : ℕ). wrap (z + f.number)) en) refl one three (λ z. absurd (none z))
 
-        pub called_on : n ≡ 0 → EndedOk m e c r h d f m' e' (record { status = 2; rest = record { eip = to; flags = r.flags } })
-        called_on z = called 2 refl (λ _. told.0 (rw z)) apart
-          where
-            apart : ◌≡◌ {A = ℕ} 2 0 → ⊥
-            apart z = omega (arith, z)
+        pub called_on : n ≡ ends.Follows → EndedOk m e c r h d f m' e' (record { ending = ends.Done; rest = record { eip = to; flags = r.flags } })
+        called_on z = called ends.Done refl (λ _. told.0 (rw z)) done_apart
 
-        pub called_off : (n ≡ 0 → ⊥) → EndedOk m e c r h d f m' e' (record { status = n; rest = record { eip = to; flags = r.flags } })
+        pub called_off : (n ≡ ends.Follows → ⊥) → EndedOk m e c r h d f m' e' (record { ending = n; rest = record { eip = to; flags = r.flags } })
         called_off z = called n told.1.1 told.0 z

@@ -12,12 +12,14 @@ use Rattle.forms.specs.declared.Form.{Form}
 use Rattle.forms.specs.Forms.{reg, meant}
 use Rattle.hops.specs.declared.Rest.{Rest}
 use Rattle.hops.proofs.Swiftly.{unmoved}
-use Rattle.strides.specs.declared.Ended.{Ended}
+use Rattle.hops.specs.declared.Ending.TheVariants as ends
+use Rattle.hops.specs.declared.Swift.{Swift}
 use Rattle.strides.specs.Strides.{Stands, Here, EndedOk}
+use Rattle.strides.proofs.Parts.{stuck_apart}
 
 module _ (m : Mem) (e : List ℕ) (c : Control) (r : Rest) (h : Kept) (d : List ℕ) (f : Form) where
-  pub stays : Stands m c h d r → {w : Ended} → w ≡ record { status = 1; rest = r } → EndedOk m e c r h d f m e w
-  stays stands ew = rw ew (record { swift = unmoved m e c r h d stands.pages; follows = λ z. absurd (omega (arith, z)) })
+  pub stays : Stands m c h d r → {w : Swift} → w ≡ record { ending = ends.Stuck; rest = r } → EndedOk m e c r h d f m e w
+  stays stands ew = rw ew (record { swift = unmoved m e c r h d stands.pages; follows = λ z. absurd (stuck_apart z) })
 
   pub fast : Here m h r f → reg e f.b < 4294967296 → length e ≡ 8 → (p : Fast) → meant f e r.eip (status_in r.flags) ≡ p
       → FastOk m e (status_in r.flags) r.eip (h.base + r.eip % 4096) p

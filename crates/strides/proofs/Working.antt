@@ -21,8 +21,11 @@ use Rattle.hops.specs.declared.Rest.{Rest}
 use Rattle.hops.specs.Hops.{SwiftOk}
 use Rattle.hops.proofs.Seeking.{none_reached}
 use Rattle.hops.proofs.Swiftly.{few_hopped, jumped, double_hopped, of_operands, move_out}
-use Rattle.strides.specs.declared.Ended.{Ended}
+use Rattle.hops.specs.declared.Ending.{Ending}
+use Rattle.hops.specs.declared.Ending.TheVariants as ends
+use Rattle.hops.specs.declared.Swift.{Swift}
 use Rattle.strides.specs.Strides.{Stands, Here, EndedOk}
+use Rattle.strides.proofs.Parts.{done_apart}
 use Rattle.strides.proofs.Standing.{fast}
 
 -- ---- what a form means
@@ -71,8 +74,8 @@ module _ (f : Form) (e : List ℕ) (eip : ℕ) (s : Status) where
 
 -- ---- the ends
 
-abbrev ended : ℕ → ℕ → Brief → Ended
-ended status eip g = record { status = status; rest = record { eip = eip; flags = g } }
+abbrev ended : Ending → ℕ → Brief → Swift
+ended a eip g = record { ending = a; rest = record { eip = eip; flags = g } }
 
 -- MOV of a number takes it whatever the register holds
 pub left_free : (op x y : ℕ) (s : Status) → x < 4294967296 → y < 4294967296 → out_of op true x y s ≡ out_of op true (cond (eqb op 9) 0 x) y s
@@ -94,17 +97,20 @@ module _ (m : Mem) (e : List ℕ) (c : Control) (r : Rest) (h : Kept) (d : List 
     is_there {p} ep = fast m e c r h d f here whole eight p ep
 
     -- the instruction after it follows
-    on_next : {e' : List ℕ} {w : Ended} {n : ℕ} (g : Brief) → n ≡ next → w ≡ ended 0 n g → SwiftOk m e c r h m e' d (record { done = true; holds = true; rest = record { eip = next; flags = g } })
-        → EndedOk m e c r h d f m e' w
-    on_next g en ew k = rw (ew, en) (record { swift = k; follows = λ _. (refl, (refl, λ i _. refl)) })
+    following : {m' : Mem} {e' : List ℕ} {x : Rest} → SwiftOk m e c r h m' e' d (record { ending = ends.Done; rest = x }) → SwiftOk m e c r h m' e' d (record { ending = ends.Follows; rest = x })
+    following k = record { did = k.did; not = k.not; kept = k.kept }
 
-    worked : {op x y to n : ℕ} {wide : Bool} {e' : List ℕ} {w : Ended} (o : Short) → meant f e r.eip s ≡ working op wide 0 0 x y to next → out_in o ≡ out_of op wide x y s
-        → e' ≡ (deposit_of (working op wide 0 0 x y to next) (file e) o.value).e → n ≡ next → w ≡ ended 0 n o.flags → EndedOk m e c r h d f m e' w
+    on_next : {e' : List ℕ} {w : Swift} {n : ℕ} (g : Brief) → n ≡ next → w ≡ ended ends.Follows n g → SwiftOk m e c r h m e' d (record { ending = ends.Done; rest = record { eip = next; flags = g } })
+        → EndedOk m e c r h d f m e' w
+    on_next g en ew k = rw (ew, en) (record { swift = following k; follows = λ _. (refl, (refl, λ i _. refl)) })
+
+    worked : {op x y to n : ℕ} {wide : Bool} {e' : List ℕ} {w : Swift} (o : Short) → meant f e r.eip s ≡ working op wide 0 0 x y to next → out_in o ≡ out_of op wide x y s
+        → e' ≡ (deposit_of (working op wide 0 0 x y to next) (file e) o.value).e → n ≡ next → w ≡ ended ends.Follows n o.flags → EndedOk m e c r h d f m e' w
     worked {op} {x} {y} {to} {n} {wide} o ep eo ee en ew =
         let p : Fast = working op wide 0 0 x y to next in
         on_next o.flags en ew
         (few_hopped m e c r h d stands.pages.0 stands.size stands.small stands.page stands.room _ p refl (is_there ep) (record { eip = next; flags = o.flags })
-        (record { found = true; at = 0; value = 0; x = x; y = y }) refl (none_reached m c p _ refl refl refl refl) (omega arith) (omega arith) (of_operands p (record { found = true; at = 0; value = 0; x = x; y = y }) s (refl, refl) eo) ee refl refl stands.pages)
+        (record { at = 0; value = 0; x = x; y = y }) refl (none_reached m c p _ refl refl refl refl) (omega arith) (omega arith) (of_operands p (record { at = 0; value = 0; x = x; y = y }) s (refl, refl) eo) ee refl refl stands.pages)
 
     -- the result goes to a register, unless it is CMP or TEST
     put_away : (op x y v : ℕ) (b : Bool) → cond b (set e f.a v) e ≡ (deposit_of (working op true 0 0 x y (cond b f.a 8) next) (file e) v).e
@@ -112,38 +118,38 @@ module _ (m : Mem) (e : List ℕ) (c : Control) (r : Rest) (h : Kept) (d : List 
     put_away op x y v true = rw (lt-ltb f.a 8 here.1.a)
     put_away op x y v false = refl
 
-    pub settled : {op x y n : ℕ} {e' : List ℕ} {w : Ended} (o : Short) → meant f e r.eip s ≡ working op true 0 0 x y (taking op f.a) next → out_in o ≡ out_of op true x y s
-        → e' ≡ cond (writes op) (set e f.a o.value) e → n ≡ next → w ≡ ended 0 n o.flags → EndedOk m e c r h d f m e' w
+    pub settled : {op x y n : ℕ} {e' : List ℕ} {w : Swift} (o : Short) → meant f e r.eip s ≡ working op true 0 0 x y (taking op f.a) next → out_in o ≡ out_of op true x y s
+        → e' ≡ cond (writes op) (set e f.a o.value) e → n ≡ next → w ≡ ended ends.Follows n o.flags → EndedOk m e c r h d f m e' w
     settled {op} {x} {y} o ep eo ee en ew = worked o ep eo (ee ∙ put_away op x y o.value (writes op)) en ew
 
     -- or nowhere
-    pub to_none : {op x y n : ℕ} {wide : Bool} {w : Ended} (o : Short) → meant f e r.eip s ≡ working op wide 0 0 x y 8 next → out_in o ≡ out_of op wide x y s
-        → n ≡ next → w ≡ ended 0 n o.flags → EndedOk m e c r h d f m e w
+    pub to_none : {op x y n : ℕ} {wide : Bool} {w : Swift} (o : Short) → meant f e r.eip s ≡ working op wide 0 0 x y 8 next → out_in o ≡ out_of op wide x y s
+        → n ≡ next → w ≡ ended ends.Follows n o.flags → EndedOk m e c r h d f m e w
     unfolding deposit_of
     to_none o ep eo en ew = worked o ep eo refl en ew
 
-    pub moves : {x y n : ℕ} {e' : List ℕ} {w : Ended} → meant f e r.eip s ≡ working 9 true 0 0 x y f.a next → x < 4294967296 → y < 4294967296
-        → e' ≡ set e f.a y → n ≡ next → w ≡ ended 0 n r.flags → EndedOk m e c r h d f m e' w
+    pub moves : {x y n : ℕ} {e' : List ℕ} {w : Swift} → meant f e r.eip s ≡ working 9 true 0 0 x y f.a next → x < 4294967296 → y < 4294967296
+        → e' ≡ set e f.a y → n ≡ next → w ≡ ended ends.Follows n r.flags → EndedOk m e c r h d f m e' w
     moves {x} {y} ep hx hy ee en ew = settled (record { value = y; flags = r.flags }) ep (move_out 9 x y true s hx hy refl) ee en ew
 
     -- jumps, taken or not
-    jumping : {t : ℕ} → meant f e r.eip s ≡ jump_fast t → SwiftOk m e c r h m e d (record { done = true; holds = true; rest = record { eip = t; flags = r.flags } })
+    jumping : {t : ℕ} → meant f e r.eip s ≡ jump_fast t → SwiftOk m e c r h m e d (record { ending = ends.Done; rest = record { eip = t; flags = r.flags } })
     unfolding jump_fast
     jumping {t} ep =
         jumped m e c r h d stands.pages.0 stands.size stands.small stands.page stands.room _ (jump_fast t) refl (is_there ep) (record { eip = t; flags = r.flags }) refl refl refl refl stands.pages
 
-    pub jumps : {n t : ℕ} {w : Ended} → meant f e r.eip s ≡ jump_fast (target f r.eip) → n ≡ next → t ≡ wrap (n + f.number)
-        → w ≡ ended 2 t r.flags → EndedOk m e c r h d f m e w
-    jumps ep en et ew = rw (ew, et, en) (record { swift = jumping ep; follows = λ z. absurd (omega (arith, z)) })
+    pub jumps : {n t : ℕ} {w : Swift} → meant f e r.eip s ≡ jump_fast (target f r.eip) → n ≡ next → t ≡ wrap (n + f.number)
+        → w ≡ ended ends.Done t r.flags → EndedOk m e c r h d f m e w
+    jumps ep en et ew = rw (ew, et, en) (record { swift = jumping ep; follows = λ z. absurd (done_apart z) })
 
-    pub goes_on : {n : ℕ} {w : Ended} → meant f e r.eip s ≡ jump_fast next → n ≡ next → w ≡ ended 0 n r.flags → EndedOk m e c r h d f m e w
+    pub goes_on : {n : ℕ} {w : Swift} → meant f e r.eip s ≡ jump_fast next → n ≡ next → w ≡ ended ends.Follows n r.flags → EndedOk m e c r h d f m e w
     goes_on ep en ew = on_next r.flags en ew (jumping ep)
 
     -- MUL
-    pub doubles : {x n : ℕ} {e' : List ℕ} {w : Ended} → f.kind ≡ 75 → x ≡ reg e f.b
+    pub doubles : {x n : ℕ} {e' : List ℕ} {w : Swift} → f.kind ≡ 75 → x ≡ reg e f.b
         → e' ≡ (with_register (with_register (file e) 0 (product false true (get_or e 0 0) x s).low) 2 (product false true (get_or e 0 0) x s).high).e
-        → w.status ≡ 0 → n ≡ next → w.rest.eip ≡ n → status_in w.rest.flags ≡ (product false true (get_or e 0 0) x s).status → EndedOk m e c r h d f m e' w
+        → w.ending ≡ ends.Follows → n ≡ next → w.rest.eip ≡ n → status_in w.rest.flags ≡ (product false true (get_or e 0 0) x s).status → EndedOk m e c r h d f m e' w
     doubles {w = w} k ex ee es en ei ef =
         let p : Fast = doubling f e r.eip in
         let t = double_hopped m e c r h d stands.pages.0 stands.size stands.small stands.page stands.room _ p refl (is_there (a_double f e r.eip s k)) w.rest refl (rw ex at ee) (ei ∙ en) (rw ex at ef) stands.pages in
-        record { swift = rw es t; follows = λ _. (ei ∙ en, (refl, λ i _. refl)) }
+        record { swift = rw es (following t); follows = λ _. (ei ∙ en, (refl, λ i _. refl)) }

@@ -1,6 +1,6 @@
 -- A stride: one form, where its instruction stands; then as many as a block has.
 -- Assumes nothing.
-use Rattle.std.specs.Prelude.{◌≡◌, ℕ, ◌+◌, ◌/◌, ◌%◌, ◌<◌, ◌≤◌, not, List, length, ◌==◌}
+use Rattle.std.specs.Prelude.{◌≡◌, ℕ, ◌+◌, ◌/◌, ◌%◌, ◌<◌, ◌≤◌, List, length}
 use Rattle.machine.specs.declared.Control.{Control}
 use Rattle.machine.specs.Record.{Mem, wrap}
 use Rattle.keptpages.specs.declared.Kept.{Kept}
@@ -8,9 +8,9 @@ use Rattle.keptpages.specs.Quiet.{Agree}
 use Rattle.forms.specs.declared.Form.{Form}
 use Rattle.forms.specs.Forms.{FormOk, Small}
 use Rattle.hops.specs.declared.Rest.{Rest}
+use Rattle.hops.specs.declared.Ending.TheVariants as ends
 use Rattle.hops.specs.declared.Swift.{Swift}
 use Rattle.hops.specs.Hops.{PagesOk, SwiftOk}
-use Rattle.strides.specs.declared.Ended.{Ended}
 
 -- the run stands at r, on the code page h, with room for an instruction
 pub record Stands (m : Mem) (c : Control) (h : Kept) (d : List ℕ) (r : Rest) : Type 0 where
@@ -24,15 +24,11 @@ pub record Stands (m : Mem) (c : Control) (h : Kept) (d : List ℕ) (r : Rest) :
 abbrev pub Here : Mem → Kept → Rest → Form → Type 0
 Here m h r f = (FormOk m (h.base + r.eip % 4096) f) × (Small f)
 
--- what a form ends with, as a quick step: 1 is not done, and 3 leaves pages that may be others
-abbrev pub swift_in : Ended → Swift
-swift_in w = record { done = not (w.status == 1); holds = not (w.status == 3); rest = w.rest }
-
--- 0: the instruction after it follows, and the code page's bytes are as they were
-pub record EndedOk (m : Mem) (e : List ℕ) (c : Control) (r : Rest) (h : Kept) (d : List ℕ) (f : Form) (m' : Mem) (e' : List ℕ) (w : Ended) : Type 0 where
-  pub swift : SwiftOk m e c r h m' e' d (swift_in w)
-  pub follows : w.status ≡ 0 → (w.rest.eip ≡ wrap (r.eip + f.length)) × ((length m' ≡ length m) × (Agree m m' (h.base / 4096)))
+-- a quick step; and where the instruction after it follows, the code page's bytes are as they were
+pub record EndedOk (m : Mem) (e : List ℕ) (c : Control) (r : Rest) (h : Kept) (d : List ℕ) (f : Form) (m' : Mem) (e' : List ℕ) (w : Swift) : Type 0 where
+  pub swift : SwiftOk m e c r h m' e' d w
+  pub follows : w.ending ≡ ends.Follows → (w.rest.eip ≡ wrap (r.eip + f.length)) × ((length m' ≡ length m) × (Agree m m' (h.base / 4096)))
 
 -- what a form that needs no memory ends with, wherever it stands
-abbrev pub Aside : List ℕ → Rest → Form → List ℕ → Ended → Type 0
+abbrev pub Aside : List ℕ → Rest → Form → List ℕ → Swift → Type 0
 Aside e r f e' w = (m : Mem) (c : Control) (h : Kept) (d : List ℕ) → Stands m c h d r → Here m h r f → EndedOk m e c r h d f m e' w

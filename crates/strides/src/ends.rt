@@ -1,23 +1,16 @@
 // The small parts of which forms are made.
-ghost use Rattle.std.specs.Prelude.{◌≡◌, ℕ, ◌+◌, ◌/◌, ◌%◌, ◌<◌, ◌≤◌, true, false, not, length, ◌==◌, slice_index, slice_set};
+ghost use Rattle.std.specs.Prelude.{◌≡◌, ℕ, ◌+◌, ◌/◌, ◌%◌, ◌<◌, ◌≤◌, true, false, length, slice_index, slice_set, IfSome};
 ghost use Rattle.machine.specs.Record.{Mem, read_at, write_at};
 ghost use Rattle.machine.specs.declared.Control.{Control};
 ghost use Rattle.keptpages.specs.Quiet.{HeldOk, Quiet, Agree};
 ghost use Rattle.outcome.specs.Outcome.{file};
-ghost use Rattle.hops.specs.Hops.{Spared};
+ghost use Rattle.hops.specs.Hops.{moves, keeps, Spared};
+ghost use Rattle.hops.specs.declared.Ending.TheVariants as ends;
 
-use crate::Ended;
-use alu::brief::{Brief, Short};
-use hops::Rest;
-use keptpages::{Kept, Settled};
+use alu::brief::Short;
+use hops::{Ending, Swift};
+use keptpages::Kept;
 use machine::Control;
-
-// A place in memory: is its page at hand, and where it lies.
-#[derive(Clone, Copy)]
-pub struct Spot {
-    pub found: bool,
-    pub at: u32,
-}
 
 fn words(e: &[u32]) -> u32
     ensures { (result ≡ slice_index e.now 0) × ((n : ℕ) → slice_index e.now n < 4294967296) }
@@ -69,66 +62,39 @@ pub fn put_byte(e: &mut [u32; 8], n: u32, x: u32)
     put(e, n % 4, old / 256 * 256 + x);
 }
 
-// Done: the run goes on at eip.
-pub fn onward(eip: u32, flags: Brief, status: u32) -> Ended
-    ensures { result ≡ record { status = status; rest = record { eip = eip; flags = flags } } }
-{
-    Ended {
-        status,
-        rest: Rest { eip, flags },
-    }
-}
-
 // The result goes to register n.
-pub fn wrote(e: &mut [u32; 8], n: u32, eip: u32, o: Short) -> Ended
+pub fn wrote(e: &mut [u32; 8], n: u32, eip: u32, o: Short) -> Swift
     requires { n < 8 }
-    ensures { (e.new ≡ slice_set e.old n o.value) × (result ≡ record { status = 0; rest = record { eip = eip; flags = o.flags } }) }
+    ensures { (e.new ≡ slice_set e.old n o.value) × (result ≡ record { ending = ends.Follows; rest = record { eip = eip; flags = o.flags } }) }
 {
     put(e, n, o.value);
     let g = o.flags;
-    onward(eip, g, 0)
-}
-
-// Where the byte at l lies, if its page is at hand.
-pub fn touch(d: &[u64; 32], table: u32, w: bool, l: u32) -> Spot
-    ensures { result.found ≡ true → (m : Mem) (c : Control) → HeldOk m c table d.now → Quiet m c w l (record { 0 = result.at }) }
-{
-    let q = keptpages::held::peek(d, table, w, l);
-    let Settled::Ready(at) = q else {
-        return Spot {
-            found: false,
-            at: 0,
-        };
-    };
-    Spot { found: true, at }
+    Swift::onward(eip, g, Ending::Follows)
 }
 
 // Where the dword at l lies, if all of it is on a page that is at hand.
-pub fn reach(d: &[u64; 32], table: u32, w: bool, l: u32) -> Spot
-    ensures { result.found ≡ true → (l % 4096 ≤ 4092) × ((m : Mem) (c : Control) → HeldOk m c table d.now → Quiet m c w l (record { 0 = result.at })) }
+pub fn reach(d: &[u64; 32], table: u32, w: bool, l: u32) -> Option<u32>
+    ensures { IfSome result (λ i. (l % 4096 ≤ 4092) × ((m : Mem) (c : Control) → HeldOk m c table d.now → Quiet m c w l (record { 0 = i }))) }
 {
-    let q = touch(d, table, w, l);
+    let at = keptpages::held::peek(d, table, w, l);
     if 4092 < l % 4096 {
-        return Spot {
-            found: false,
-            at: 0,
-        };
+        return None;
     }
-    q
+    at
 }
 
-// Stores a dword at i, all on one page; answers 3 where the pages that are kept may be others, 2 where the code page has changed, else 0.
-pub fn store(mem: &mut [u8], c: Control, h: Kept, i: u32, v: u32) -> u32
+// Stores a dword at i, all on one page; answers whether the pages that are kept may be others, or the code page has changed.
+pub fn store(mem: &mut [u8], c: Control, h: Kept, i: u32, v: u32) -> Ending
     requires { (i + 3 < length mem.old) × (i % 4096 ≤ 4092) }
-    ensures { (mem.new ≡ slice_set (slice_set (slice_set (slice_set mem.old i (v % 256)) (i + 1) (v / 256 % 256)) (i + 2) (v / 65536 % 256)) (i + 3) (v / 16777216 % 256)) × ((not (result == 3) ≡ true → Spared mem.old mem.new c h.table) × ((result ≡ 0 → Agree mem.old mem.new (h.base / 4096)) × (not (result == 1) ≡ true))) }
+    ensures { (mem.new ≡ slice_set (slice_set (slice_set (slice_set mem.old i (v % 256)) (i + 1) (v / 256 % 256)) (i + 2) (v / 65536 % 256)) (i + 3) (v / 16777216 % 256)) × ((keeps result ≡ true → Spared mem.old mem.new c h.table) × ((result ≡ ends.Follows → Agree mem.old mem.new (h.base / 4096)) × (moves result ≡ true))) }
 {
     hops::put_present(mem, i as usize, v);
     let frame = i / 4096;
     if (frame == h.table) | (frame == c.cr3 / 4096) {
-        return 3;
+        return Ending::Remapped;
     }
     if frame == h.base / 4096 {
-        return 2;
+        return Ending::Done;
     }
-    0
+    Ending::Follows
 }

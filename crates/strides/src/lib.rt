@@ -8,17 +8,9 @@ mod plain;
 ghost use Rattle.strides.specs.Strides.{Stands, Here, EndedOk};
 
 use forms::Form;
-use hops::Rest;
+use hops::{Rest, Swift};
 use keptpages::Kept;
 use machine::Control;
-
-// How a form ended: 0 done, and the instruction after it follows; 1 not done, and nothing is changed; 2 done; 3 done, and the pages that are kept may
-// be others. And where the run stands.
-#[derive(Clone, Copy)]
-pub struct Ended {
-    pub status: u32,
-    pub rest: Rest,
-}
 
 // One form. All kinds are told apart at one place: a second test of the kind would cost as much as most of them do. Each reads the registers that it
 // needs, since what is read before the match is read for all.
@@ -30,12 +22,12 @@ pub fn carry_out(
     r: Rest,
     h: Kept,
     f: Form,
-) -> Ended
+) -> Swift
     requires { (Stands mem.old c h d.now r) × (Here mem.old h r f) }
     ensures { EndedOk mem.old e.old c r h d.now f mem.new e.new result }
 {
     let kind = f.kind;
-    let next = std::num::wrapping_add_u32(r.eip, f.length);
+    let next = r.eip.wrapping_add(f.length);
     match kind {
         0 => plain::by_register(e, r, f, next, 0),
         1 => plain::by_register(e, r, f, next, 1),
@@ -100,6 +92,6 @@ pub fn carry_out(
         74 => plain::test_bytes(e, r, f, next),
         75 => plain::double(e, r, f, next),
         76 => plain::times(e, r, f, next),
-        _ => memory::stuck(r),
+        _ => Swift::stuck(r),
     }
 }

@@ -2,7 +2,7 @@
 // takes over.
 #![tactic(auto)]
 
-ghost use Rattle.std.specs.Prelude.{◌≡◌, true, false, ◌%◌, ◌≤◌, length};
+ghost use Rattle.std.specs.Prelude.{◌≡◌, true, ◌/◌, ◌%◌, ◌≤◌, length, IfSome};
 ghost use Rattle.alu.specs.Brief.{status_in, tellable};
 ghost use Rattle.machine.specs.Record.{flags_in};
 ghost use Rattle.encoding.specs.Encodings.{Classed};
@@ -30,37 +30,33 @@ pub struct Dashed {
     pub cpu: Cpu,
 }
 
-// Field by field: a record that is copied whole from a call's answer would have to stand in memory.
-fn apart(k: Kept) -> Kept
-    ensures { result ≡ k }
-{
-    Kept {
-        page: k.page,
-        base: k.base,
-        table: k.table,
-    }
-}
-
 // The code page of EIP, to be kept. Pages of data whose entries are in another table are dropped, and all where they do not hold on.
-fn turned(mem: &[u8], c: Control, d: &mut [u64], table: u32, holds: bool, eip: u32) -> Kept
+fn turned(mem: &[u8], c: Control, d: &mut [u64], table: u32, holds: bool, eip: u32) -> Option<Kept>
     requires { holds ≡ true → HeldOk mem.now c table d.old }
-    ensures { PagesOk mem.now c result d.new }
+    ensures { IfSome result (λ h. (h.page ≡ eip / 4096) × (PagesOk mem.now c h d.new)) }
 {
-    let k = keptpages::page_of(mem, c, false, eip);
+    let k = keptpages::page_of(mem, c, false, eip)?;
     if holds & (k.table == table) {
-        return apart(k);
+        return Some(k);
     }
     keptpages::held::clear(d);
-    apart(k)
+    Some(k)
 }
 
 // The code page of EIP where h is the one before: the same, as long as it holds on.
-fn page_for(mem: &[u8], c: Control, d: &mut [u64; 32], h: Kept, holds: bool, eip: u32) -> Kept
+fn page_for(
+    mem: &[u8],
+    c: Control,
+    d: &mut [u64; 32],
+    h: Kept,
+    holds: bool,
+    eip: u32,
+) -> Option<Kept>
     requires { holds ≡ true → PagesOk mem.now c h d.old }
-    ensures { PagesOk mem.now c result d.new }
+    ensures { IfSome result (λ h. (h.page ≡ eip / 4096) × (PagesOk mem.now c h d.new)) }
 {
     if holds & (eip / 4096 == h.page) {
-        return h;
+        return Some(h);
     }
     turned(mem, c, d, h.table, holds, eip)
 }
@@ -81,25 +77,31 @@ fn rush(
 {
     let mut n: u32 = 0;
     let mut r = from;
-    let mut h = turned(mem, c, d, 0, false, r.eip);
+    let Some(first) = turned(mem, c, d, 0, false, r.eip) else {
+        return Rushed { count: n, rest: r };
+    };
+    let mut h = first;
     while n < limit {
         let w = sprints::sprint(mem, t, e, d, g, c, r, h, limit - n);
         n += w.count;
         let here = w.rest;
         r = here;
-        let k = page_for(mem, c, d, h, w.status != 3, r.eip);
-        h = k;
-        if !((n < limit) & (r.eip / 4096 == h.page) & (r.eip % 4096 <= 4080)) {
+        let Some(k) = page_for(mem, c, d, h, w.ending.keeps(), r.eip) else {
+            return Rushed { count: n, rest: r };
+        };
+        if !((n < limit) & (r.eip % 4096 <= 4080)) {
             return Rushed { count: n, rest: r };
         }
-        let w = hops::hop(mem, t, e, d, c, r, h);
+        let w = hops::hop(mem, t, e, d, c, r, k);
         let next = w.rest;
         r = next;
-        if !w.done {
+        if !w.ending.moves() {
             return Rushed { count: n, rest: r };
         }
         n += 1;
-        let k = page_for(mem, c, d, h, w.holds, r.eip);
+        let Some(k) = page_for(mem, c, d, k, w.ending.keeps(), r.eip) else {
+            return Rushed { count: n, rest: r };
+        };
         h = k;
     }
     Rushed { count: n, rest: r }
@@ -118,7 +120,7 @@ fn rest_of(eip: u32, s: Status) -> Rest
 fn joined(c: Cpu, e: [u32; 8], r: Rest) -> Cpu
     ensures { result ≡ current c e r }
 {
-    let u = machine::unpack(c.eflags);
+    let u = Flags::from(c.eflags);
     let f = r.flags;
     let status = alu::brief::status_in(f);
     let flags = Flags {
@@ -168,7 +170,7 @@ pub fn dash(c: Cpu, mem: &mut [u8], t: &[u8; 512], g: &mut [u64; 4096], limit: u
     requires { (length mem.old % 4096 ≡ 0) × ((Classed t.now) × (Known g.old)) }
     ensures { (result.count ≤ limit) × ((DashOk mem.old c result.count mem.new result.cpu) × (Known g.new)) }
 {
-    let u = machine::unpack(c.eflags);
+    let u = Flags::from(c.eflags);
     let s = u.status;
     if !alu::brief::is_tellable(s) {
         return Dashed { count: 0, cpu: c };

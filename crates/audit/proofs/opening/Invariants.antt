@@ -1,11 +1,8 @@
-use Prim.Native.Nat.{◌≤◌, ◌-◌, ◌*◌}
+use Prim.Native.Nat.{◌*◌}
 use mathlib.Core.Path.{◌≡◌}
 use Rattle.machine.specs.Audit.{first, exposed}
 use mathlib.Core.Option.{none}
 use Rattle.audit.proofs.opening.Given as goal
 
 abbrev pub invariant-loop-d : goal.invariant-loop-d
-invariant-loop-d l = (l.d ≤ 1024) × (first (exposed l.mem l.c) (l.d * 1024) ≡ none)
-
-abbrev pub decreases-loop-d : goal.decreases-loop-d
-decreases-loop-d l = 1024 - l.d
+invariant-loop-d l = first (exposed l.mem l.c) (l.d * 1024) ≡ none

@@ -4,7 +4,7 @@ use Rattle.audit.proofs.raise_table.Goals as goal
 
 pub returns-then-e-eq1 : goal.returns-then-e-eq1
 unfolding with_table
-returns-then-e-eq1 c = rw (eq-eqb _ 1 c.if-e-eq1.true) c.raise.ensures
+returns-then-e-eq1 c = rw (eq-eqb _ 1 c.if-e-eq1.true) c.put.ensures
 
 pub returns-else-e-eq1 : goal.returns-else-e-eq1
 unfolding with_table

@@ -11,8 +11,8 @@ use Rattle.audit.proofs.tables.Goals as goal
 pub returns-then-not-in_memory : goal.returns-then-not-in_memory
 returns-then-not-in_memory c = sym (no_directory _ _ (sym c.in_memory.ensures ∙ c.if-not-in_memory.true))
 
-pub returns-in-At : goal.returns-in-At
-returns-in-At c = sym (no_table _ _ (sym c.in_memory.ensures ∙ c.if-not-in_memory.false) _ (sym c.stray.ensures ∙ ap found_of c.in-At.is))
+pub returns-in-Some : goal.returns-in-Some
+returns-in-Some c = sym (no_table _ _ (sym c.in_memory.ensures ∙ c.if-not-in_memory.false) _ (sym c.stray.ensures ∙ ap found_of c.in-Some.is))
 
 pub raise_all-requires : goal.raise_all-requires
 raise_all-requires c = clear
@@ -21,10 +21,10 @@ pub opening-requires : goal.opening-requires
 opening-requires c = ready _ _ _ (record { whole = c.requires.0; small = c.requires.1; dir_in = ltb-true _ _ (sym c.in_memory.ensures ∙ c.if-not-in_memory.false); tabs_in = sym c.stray.ensures ∙ ap found_of c.in_default.is }) c.raise_all.ensures
 
 pub overflow_mul-result : goal.overflow_mul-result
-overflow_mul-result c = let b : c.in-At-opening.p < 1048576 = small _ _ _ (ap found_of (sym c.in-At-opening.is) ∙ c.opening.ensures) in search rules
+overflow_mul-result c = let b : c.in-Some-opening.p < 1048576 = small _ _ _ (ap found_of (sym c.in-Some-opening.is) ∙ c.opening.ensures) in search rules
 
-pub returns-in-At-opening : goal.returns-in-At-opening
-returns-in-At-opening c = sym (opened _ _ (sym c.in_memory.ensures ∙ c.if-not-in_memory.false) _ (sym c.stray.ensures ∙ ap found_of c.in_default.is) (sym c.opening.ensures ∙ ap found_of c.in-At-opening.is))
+pub returns-in-Some-opening : goal.returns-in-Some-opening
+returns-in-Some-opening c = sym (opened _ _ (sym c.in_memory.ensures ∙ c.if-not-in_memory.false) _ (sym c.stray.ensures ∙ ap found_of c.in_default.is) (sym c.opening.ensures ∙ ap found_of c.in-Some-opening.is))
 
 pub returns : goal.returns
 returns c = sym (all_safe _ _ (sym c.in_memory.ensures ∙ c.if-not-in_memory.false) (sym c.stray.ensures ∙ ap found_of c.in_default.is) (sym c.opening.ensures ∙ ap found_of c.in_default-opening.is))

@@ -1,4 +1,4 @@
-use Rattle.forms.proofs.Reading.{none_read, move_dword, read_to, read_test, read_store}
+use Rattle.forms.proofs.Reading.{move_dword, read_to, read_test, read_store}
 use borrow.Author.Rules.{rules}
 use Rattle.forms.proofs.to_operand.Goals as goal
 
@@ -8,14 +8,5 @@ returns-then-b-eq1 c = read_to (c.args.mem.now) (c.args.i) (c.args.b) (c.args.m)
 pub returns-then-op-eq8 : goal.returns-then-op-eq8
 returns-then-op-eq8 c = read_test (c.args.mem.now) (c.args.i) (c.args.b) (c.args.m) (c.requires.1.0) (c.requires.1.1.0) (c.args.c) (c.args.op) (c.requires.1.1.1.1.0) (c.requires.1.1.1.1.1.0) (c.requires.1.1.1.1.1.1) c.if-op-eq8.true c.if-m-ge192.true c.if-b-eq1.false
 
-pub returns-then-m-ge192 : goal.returns-then-m-ge192
-returns-then-m-ge192 c = none_read (c.args.mem.now) (c.args.i) _ c.nothing.ensures
-
-pub returns-then-op-b : goal.returns-then-op-b
-returns-then-op-b c = none_read (c.args.mem.now) (c.args.i) _ c.nothing-then-op-b.ensures
-
-pub returns-then-q-eq0 : goal.returns-then-q-eq0
-returns-then-q-eq0 c = none_read (c.args.mem.now) (c.args.i) _ c.nothing-then-q-eq0.ensures
-
 pub returns : goal.returns
-returns c = let z = move_dword (c.args.op) (c.args.b) c.if-op-b.false in read_store (c.args.mem.now) (c.args.i) (c.args.b) (c.args.m) (c.requires.1.0) (c.requires.1.1.0) (c.args.c) (c.args.op) (c.requires.1.1.1.1.0) (c.requires.1.1.1.1.1.0) (c.requires.1.1.1.1.1.1) _ _ z.0 c.if-m-ge192.false z.1 c.beside-q.ensures.0 (search rules) (c.beside-q.ensures.1 c.if-q-eq0.false)
+returns c = let z = move_dword (c.args.op) (c.args.b) c.if-op-b.false in read_store (c.args.mem.now) (c.args.i) (c.args.b) (c.args.m) (c.requires.1.0) (c.requires.1.1.0) (c.args.c) (c.args.op) (c.requires.1.1.1.1.0) (c.requires.1.1.1.1.1.0) (c.requires.1.1.1.1.1.1) _ _ z.0 c.if-m-ge192.false z.1 c.in_ok-q.ensures.0 (search rules) c.in_ok-q.ensures.1

@@ -1,8 +1,7 @@
 use native.Mathlib.Omega.{arith}
-use borrow.Author.Tests.{not-false}
 use borrow.Author.Rules.{rules}
-use mathlib.Core.Path.{refl, ◌∙◌}
-use Prim.Native.Nat.{◌<◌, ◌-◌}
+use mathlib.Core.Path.{refl, sym, ◌∙◌}
+use Prim.Native.Nat.{◌<◌}
 use Rattle.sprints.proofs.Sprinting.{off, paused, room, ready, on, done, goes_on}
 use Rattle.sprints.proofs.sprint.Goals as goal
 
@@ -27,17 +26,17 @@ trace-w-requires c = let small : (c.loop-n.r.eip) < 4294967296 = search rules in
 pub overflow_add-n : goal.overflow_add-n
 overflow_add-n c = let k = c.trace-w.ensures.0 in let l = c.loop-n-test.true in omega (arith, k, l, c.loop-n.invariant.0, c.ranges.limit)
 
-pub shape_of-mem-then-w : goal.shape_of-mem-then-w
-shape_of-mem-then-w c = (c.trace-w.ensures.1.size) ∙ (c.loop-n.invariant.5.same)
+pub shape_of-mem-then-moves-keeps : goal.shape_of-mem-then-moves-keeps
+shape_of-mem-then-moves-keeps c = (c.trace-w.ensures.1.size) ∙ (c.loop-n.invariant.5.same)
 
-pub returns-then-w : goal.returns-then-w
-returns-then-w c = let k = c.trace-w.ensures.0 in let l = c.loop-n-test.true in (omega (arith, k, l), (done _ _ _ _ _ _ _ _ _ _ (c.loop-n.invariant.5) _ _ _ (c.trace-w.ensures.1), c.find-s.ensures.1.1.0))
+pub returns-then-moves-keeps : goal.returns-then-moves-keeps
+returns-then-moves-keeps c = let k = c.trace-w.ensures.0 in let l = c.loop-n-test.true in (omega (arith, k, l), (done _ _ _ _ _ _ _ _ _ _ (c.loop-n.invariant.5) _ _ _ (c.trace-w.ensures.1), c.find-s.ensures.1.1.0))
 
 pub loop-n-smaller : goal.loop-n-smaller
-loop-n-smaller c = let q = goes_on (c.trace-w.result.status) (c.trace-w.result.count) (c.if-w.false) in let k = c.trace-w.ensures.0 in let l = c.loop-n-test.true in omega (arith, q.1, k, l)
+loop-n-smaller c = let q = goes_on _ _ (c.trace-w.result.count) (c.if-moves-keeps.false) in let k = c.trace-w.ensures.0 in let l = c.loop-n-test.true in omega (arith, q.1, k, l)
 
 pub loop-n-preserved : goal.loop-n-preserved
-loop-n-preserved c = let q = goes_on (c.trace-w.result.status) (c.trace-w.result.count) (c.if-w.false) in let k = c.trace-w.ensures.0 in let l = c.loop-n-test.true in (omega (arith, k, l), c.loop-n.invariant.1, c.loop-n.invariant.2, c.find-s.ensures.1.1.0, c.loop-n.invariant.4, on _ _ _ _ _ _ _ _ _ _ (c.loop-n.invariant.5) _ _ _ (c.trace-w.ensures.1) q.0)
+loop-n-preserved c = let q = goes_on _ _ (c.trace-w.result.count) (c.if-moves-keeps.false) in let k = c.trace-w.ensures.0 in let l = c.loop-n-test.true in (omega (arith, k, l), c.loop-n.invariant.1, c.loop-n.invariant.2, c.find-s.ensures.1.1.0, c.loop-n.invariant.4, on _ _ _ _ _ _ _ _ _ _ (c.loop-n.invariant.5) _ _ _ (c.trace-w.ensures.1) (sym c.keeps.ensures ∙ q.0))
 
 pub returns : goal.returns
 returns c = (c.loop-n.invariant.0, (paused _ _ _ _ _ _ _ _ _ _ (c.loop-n.invariant.5), c.loop-n.invariant.3))

@@ -5,193 +5,193 @@ use Rattle.strides.proofs.Reaching.{pushes, pushes_number}
 use Rattle.strides.proofs.carry_out.Goals as goal
 
 pub by_register-requires : goal.by_register-requires
-by_register-requires c = (c.in-0.is, (omega arith, (c.requires.1.1, c.wrapping_add_u32-next.ensures.value)))
+by_register-requires c = (c.in-0.is, (omega arith, (c.requires.1.1, refl)))
 
 pub by_register-requires-in-1 : goal.by_register-requires-in-1
-by_register-requires-in-1 c = (c.in-1.is, (omega arith, (c.requires.1.1, c.wrapping_add_u32-next.ensures.value)))
+by_register-requires-in-1 c = (c.in-1.is, (omega arith, (c.requires.1.1, refl)))
 
 pub by_register-requires-in-2 : goal.by_register-requires-in-2
-by_register-requires-in-2 c = (c.in-2.is, (omega arith, (c.requires.1.1, c.wrapping_add_u32-next.ensures.value)))
+by_register-requires-in-2 c = (c.in-2.is, (omega arith, (c.requires.1.1, refl)))
 
 pub by_register-requires-in-3 : goal.by_register-requires-in-3
-by_register-requires-in-3 c = (c.in-3.is, (omega arith, (c.requires.1.1, c.wrapping_add_u32-next.ensures.value)))
+by_register-requires-in-3 c = (c.in-3.is, (omega arith, (c.requires.1.1, refl)))
 
 pub by_register-requires-in-4 : goal.by_register-requires-in-4
-by_register-requires-in-4 c = (c.in-4.is, (omega arith, (c.requires.1.1, c.wrapping_add_u32-next.ensures.value)))
+by_register-requires-in-4 c = (c.in-4.is, (omega arith, (c.requires.1.1, refl)))
 
 pub by_register-requires-in-5 : goal.by_register-requires-in-5
-by_register-requires-in-5 c = (c.in-5.is, (omega arith, (c.requires.1.1, c.wrapping_add_u32-next.ensures.value)))
+by_register-requires-in-5 c = (c.in-5.is, (omega arith, (c.requires.1.1, refl)))
 
 pub by_register-requires-in-6 : goal.by_register-requires-in-6
-by_register-requires-in-6 c = (c.in-6.is, (omega arith, (c.requires.1.1, c.wrapping_add_u32-next.ensures.value)))
+by_register-requires-in-6 c = (c.in-6.is, (omega arith, (c.requires.1.1, refl)))
 
 pub by_register-requires-in-7 : goal.by_register-requires-in-7
-by_register-requires-in-7 c = (c.in-7.is, (omega arith, (c.requires.1.1, c.wrapping_add_u32-next.ensures.value)))
+by_register-requires-in-7 c = (c.in-7.is, (omega arith, (c.requires.1.1, refl)))
 
 pub by_register-requires-in-8 : goal.by_register-requires-in-8
-by_register-requires-in-8 c = (c.in-8.is, (omega arith, (c.requires.1.1, c.wrapping_add_u32-next.ensures.value)))
+by_register-requires-in-8 c = (c.in-8.is, (omega arith, (c.requires.1.1, refl)))
 
 pub by_register-requires-in-9 : goal.by_register-requires-in-9
-by_register-requires-in-9 c = (c.in-9.is, (omega arith, (c.requires.1.1, c.wrapping_add_u32-next.ensures.value)))
+by_register-requires-in-9 c = (c.in-9.is, (omega arith, (c.requires.1.1, refl)))
 
 pub by_number-requires : goal.by_number-requires
-by_number-requires c = (c.in-16.is, (omega arith, (c.requires.1.1, c.wrapping_add_u32-next.ensures.value)))
+by_number-requires c = (c.in-16.is, (omega arith, (c.requires.1.1, refl)))
 
 pub by_number-requires-in-17 : goal.by_number-requires-in-17
-by_number-requires-in-17 c = (c.in-17.is, (omega arith, (c.requires.1.1, c.wrapping_add_u32-next.ensures.value)))
+by_number-requires-in-17 c = (c.in-17.is, (omega arith, (c.requires.1.1, refl)))
 
 pub by_number-requires-in-18 : goal.by_number-requires-in-18
-by_number-requires-in-18 c = (c.in-18.is, (omega arith, (c.requires.1.1, c.wrapping_add_u32-next.ensures.value)))
+by_number-requires-in-18 c = (c.in-18.is, (omega arith, (c.requires.1.1, refl)))
 
 pub by_number-requires-in-19 : goal.by_number-requires-in-19
-by_number-requires-in-19 c = (c.in-19.is, (omega arith, (c.requires.1.1, c.wrapping_add_u32-next.ensures.value)))
+by_number-requires-in-19 c = (c.in-19.is, (omega arith, (c.requires.1.1, refl)))
 
 pub by_number-requires-in-20 : goal.by_number-requires-in-20
-by_number-requires-in-20 c = (c.in-20.is, (omega arith, (c.requires.1.1, c.wrapping_add_u32-next.ensures.value)))
+by_number-requires-in-20 c = (c.in-20.is, (omega arith, (c.requires.1.1, refl)))
 
 pub by_number-requires-in-21 : goal.by_number-requires-in-21
-by_number-requires-in-21 c = (c.in-21.is, (omega arith, (c.requires.1.1, c.wrapping_add_u32-next.ensures.value)))
+by_number-requires-in-21 c = (c.in-21.is, (omega arith, (c.requires.1.1, refl)))
 
 pub by_number-requires-in-22 : goal.by_number-requires-in-22
-by_number-requires-in-22 c = (c.in-22.is, (omega arith, (c.requires.1.1, c.wrapping_add_u32-next.ensures.value)))
+by_number-requires-in-22 c = (c.in-22.is, (omega arith, (c.requires.1.1, refl)))
 
 pub by_number-requires-in-23 : goal.by_number-requires-in-23
-by_number-requires-in-23 c = (c.in-23.is, (omega arith, (c.requires.1.1, c.wrapping_add_u32-next.ensures.value)))
+by_number-requires-in-23 c = (c.in-23.is, (omega arith, (c.requires.1.1, refl)))
 
 pub by_number-requires-in-24 : goal.by_number-requires-in-24
-by_number-requires-in-24 c = (c.in-24.is, (omega arith, (c.requires.1.1, c.wrapping_add_u32-next.ensures.value)))
+by_number-requires-in-24 c = (c.in-24.is, (omega arith, (c.requires.1.1, refl)))
 
 pub by_number-requires-in-25 : goal.by_number-requires-in-25
-by_number-requires-in-25 c = (c.in-25.is, (omega arith, (c.requires.1.1, c.wrapping_add_u32-next.ensures.value)))
+by_number-requires-in-25 c = (c.in-25.is, (omega arith, (c.requires.1.1, refl)))
 
 pub by_number-requires-in-26 : goal.by_number-requires-in-26
-by_number-requires-in-26 c = (c.in-26.is, (omega arith, (c.requires.1.1, c.wrapping_add_u32-next.ensures.value)))
+by_number-requires-in-26 c = (c.in-26.is, (omega arith, (c.requires.1.1, refl)))
 
 pub by_number-requires-in-27 : goal.by_number-requires-in-27
-by_number-requires-in-27 c = (c.in-27.is, (omega arith, (c.requires.1.1, c.wrapping_add_u32-next.ensures.value)))
+by_number-requires-in-27 c = (c.in-27.is, (omega arith, (c.requires.1.1, refl)))
 
 pub by_number-requires-in-28 : goal.by_number-requires-in-28
-by_number-requires-in-28 c = (c.in-28.is, (omega arith, (c.requires.1.1, c.wrapping_add_u32-next.ensures.value)))
+by_number-requires-in-28 c = (c.in-28.is, (omega arith, (c.requires.1.1, refl)))
 
 pub by_number-requires-in-29 : goal.by_number-requires-in-29
-by_number-requires-in-29 c = (c.in-29.is, (omega arith, (c.requires.1.1, c.wrapping_add_u32-next.ensures.value)))
+by_number-requires-in-29 c = (c.in-29.is, (omega arith, (c.requires.1.1, refl)))
 
 pub by_number-requires-in-31 : goal.by_number-requires-in-31
-by_number-requires-in-31 c = (c.in-31.is, (omega arith, (c.requires.1.1, c.wrapping_add_u32-next.ensures.value)))
+by_number-requires-in-31 c = (c.in-31.is, (omega arith, (c.requires.1.1, refl)))
 
 pub combine-requires : goal.combine-requires
-combine-requires c = (c.requires.0, (c.requires.1, (rw c.in-32.is refl, c.wrapping_add_u32-next.ensures.value)))
+combine-requires c = (c.requires.0, (c.requires.1, (rw c.in-32.is refl, refl)))
 
 pub combine-requires-in-33 : goal.combine-requires-in-33
-combine-requires-in-33 c = (c.requires.0, (c.requires.1, (rw c.in-33.is refl, c.wrapping_add_u32-next.ensures.value)))
+combine-requires-in-33 c = (c.requires.0, (c.requires.1, (rw c.in-33.is refl, refl)))
 
 pub combine-requires-in-34 : goal.combine-requires-in-34
-combine-requires-in-34 c = (c.requires.0, (c.requires.1, (rw c.in-34.is refl, c.wrapping_add_u32-next.ensures.value)))
+combine-requires-in-34 c = (c.requires.0, (c.requires.1, (rw c.in-34.is refl, refl)))
 
 pub combine-requires-in-35 : goal.combine-requires-in-35
-combine-requires-in-35 c = (c.requires.0, (c.requires.1, (rw c.in-35.is refl, c.wrapping_add_u32-next.ensures.value)))
+combine-requires-in-35 c = (c.requires.0, (c.requires.1, (rw c.in-35.is refl, refl)))
 
 pub combine-requires-in-36 : goal.combine-requires-in-36
-combine-requires-in-36 c = (c.requires.0, (c.requires.1, (rw c.in-36.is refl, c.wrapping_add_u32-next.ensures.value)))
+combine-requires-in-36 c = (c.requires.0, (c.requires.1, (rw c.in-36.is refl, refl)))
 
 pub combine-requires-in-37 : goal.combine-requires-in-37
-combine-requires-in-37 c = (c.requires.0, (c.requires.1, (rw c.in-37.is refl, c.wrapping_add_u32-next.ensures.value)))
+combine-requires-in-37 c = (c.requires.0, (c.requires.1, (rw c.in-37.is refl, refl)))
 
 pub combine-requires-in-38 : goal.combine-requires-in-38
-combine-requires-in-38 c = (c.requires.0, (c.requires.1, (rw c.in-38.is refl, c.wrapping_add_u32-next.ensures.value)))
+combine-requires-in-38 c = (c.requires.0, (c.requires.1, (rw c.in-38.is refl, refl)))
 
 pub combine-requires-in-39 : goal.combine-requires-in-39
-combine-requires-in-39 c = (c.requires.0, (c.requires.1, (rw c.in-39.is refl, c.wrapping_add_u32-next.ensures.value)))
+combine-requires-in-39 c = (c.requires.0, (c.requires.1, (rw c.in-39.is refl, refl)))
 
 pub load-requires : goal.load-requires
-load-requires c = (c.requires.0, (c.requires.1, (c.in-41.is, c.wrapping_add_u32-next.ensures.value)))
+load-requires c = (c.requires.0, (c.requires.1, (c.in-41.is, refl)))
 
 pub jump_if-requires : goal.jump_if-requires
-jump_if-requires c = (c.in-48.is, (omega arith, c.wrapping_add_u32-next.ensures.value))
+jump_if-requires c = (c.in-48.is, (omega arith, refl))
 
 pub jump_if-requires-in-49 : goal.jump_if-requires-in-49
-jump_if-requires-in-49 c = (c.in-49.is, (omega arith, c.wrapping_add_u32-next.ensures.value))
+jump_if-requires-in-49 c = (c.in-49.is, (omega arith, refl))
 
 pub jump_if-requires-in-50 : goal.jump_if-requires-in-50
-jump_if-requires-in-50 c = (c.in-50.is, (omega arith, c.wrapping_add_u32-next.ensures.value))
+jump_if-requires-in-50 c = (c.in-50.is, (omega arith, refl))
 
 pub jump_if-requires-in-51 : goal.jump_if-requires-in-51
-jump_if-requires-in-51 c = (c.in-51.is, (omega arith, c.wrapping_add_u32-next.ensures.value))
+jump_if-requires-in-51 c = (c.in-51.is, (omega arith, refl))
 
 pub jump_if-requires-in-52 : goal.jump_if-requires-in-52
-jump_if-requires-in-52 c = (c.in-52.is, (omega arith, c.wrapping_add_u32-next.ensures.value))
+jump_if-requires-in-52 c = (c.in-52.is, (omega arith, refl))
 
 pub jump_if-requires-in-53 : goal.jump_if-requires-in-53
-jump_if-requires-in-53 c = (c.in-53.is, (omega arith, c.wrapping_add_u32-next.ensures.value))
+jump_if-requires-in-53 c = (c.in-53.is, (omega arith, refl))
 
 pub jump_if-requires-in-54 : goal.jump_if-requires-in-54
-jump_if-requires-in-54 c = (c.in-54.is, (omega arith, c.wrapping_add_u32-next.ensures.value))
+jump_if-requires-in-54 c = (c.in-54.is, (omega arith, refl))
 
 pub jump_if-requires-in-55 : goal.jump_if-requires-in-55
-jump_if-requires-in-55 c = (c.in-55.is, (omega arith, c.wrapping_add_u32-next.ensures.value))
+jump_if-requires-in-55 c = (c.in-55.is, (omega arith, refl))
 
 pub jump_if-requires-in-56 : goal.jump_if-requires-in-56
-jump_if-requires-in-56 c = (c.in-56.is, (omega arith, c.wrapping_add_u32-next.ensures.value))
+jump_if-requires-in-56 c = (c.in-56.is, (omega arith, refl))
 
 pub jump_if-requires-in-57 : goal.jump_if-requires-in-57
-jump_if-requires-in-57 c = (c.in-57.is, (omega arith, c.wrapping_add_u32-next.ensures.value))
+jump_if-requires-in-57 c = (c.in-57.is, (omega arith, refl))
 
 pub jump_if-requires-in-58 : goal.jump_if-requires-in-58
-jump_if-requires-in-58 c = (c.in-58.is, (omega arith, c.wrapping_add_u32-next.ensures.value))
+jump_if-requires-in-58 c = (c.in-58.is, (omega arith, refl))
 
 pub jump_if-requires-in-59 : goal.jump_if-requires-in-59
-jump_if-requires-in-59 c = (c.in-59.is, (omega arith, c.wrapping_add_u32-next.ensures.value))
+jump_if-requires-in-59 c = (c.in-59.is, (omega arith, refl))
 
 pub jump_if-requires-in-60 : goal.jump_if-requires-in-60
-jump_if-requires-in-60 c = (c.in-60.is, (omega arith, c.wrapping_add_u32-next.ensures.value))
+jump_if-requires-in-60 c = (c.in-60.is, (omega arith, refl))
 
 pub jump_if-requires-in-61 : goal.jump_if-requires-in-61
-jump_if-requires-in-61 c = (c.in-61.is, (omega arith, c.wrapping_add_u32-next.ensures.value))
+jump_if-requires-in-61 c = (c.in-61.is, (omega arith, refl))
 
 pub jump_if-requires-in-62 : goal.jump_if-requires-in-62
-jump_if-requires-in-62 c = (c.in-62.is, (omega arith, c.wrapping_add_u32-next.ensures.value))
+jump_if-requires-in-62 c = (c.in-62.is, (omega arith, refl))
 
 pub jump_if-requires-in-63 : goal.jump_if-requires-in-63
-jump_if-requires-in-63 c = (c.in-63.is, (omega arith, c.wrapping_add_u32-next.ensures.value))
+jump_if-requires-in-63 c = (c.in-63.is, (omega arith, refl))
 
 pub keep-requires : goal.keep-requires
-keep-requires c = (c.requires.0, (c.requires.1, (c.in-64.is, c.wrapping_add_u32-next.ensures.value)))
+keep-requires c = (c.requires.0, (c.requires.1, (c.in-64.is, refl)))
 
 pub push-requires : goal.push-requires
-push-requires c = (c.requires.0, (c.requires.1, (pushes c.args.f _ c.args.r.eip (status_in c.args.r.flags) c.in-65.is c.register.ensures, c.wrapping_add_u32-next.ensures.value)))
+push-requires c = (c.requires.0, (c.requires.1, (pushes c.args.f _ c.args.r.eip (status_in c.args.r.flags) c.in-65.is c.register.ensures, refl)))
 
 pub push-requires-in-66 : goal.push-requires-in-66
-push-requires-in-66 c = (c.requires.0, (c.requires.1, (pushes_number c.args.f _ c.args.r.eip (status_in c.args.r.flags) c.in-66.is, c.wrapping_add_u32-next.ensures.value)))
+push-requires-in-66 c = (c.requires.0, (c.requires.1, (pushes_number c.args.f _ c.args.r.eip (status_in c.args.r.flags) c.in-66.is, refl)))
 
 pub pop-requires : goal.pop-requires
-pop-requires c = (c.requires.0, (c.requires.1, (rw c.in-67.is refl, c.wrapping_add_u32-next.ensures.value)))
+pop-requires c = (c.requires.0, (c.requires.1, (rw c.in-67.is refl, refl)))
 
 pub call-requires : goal.call-requires
-call-requires c = (c.requires.0, (c.requires.1, (c.in-68.is, c.wrapping_add_u32-next.ensures.value)))
+call-requires c = (c.requires.0, (c.requires.1, (c.in-68.is, refl)))
 
 pub jump-requires : goal.jump-requires
-jump-requires c = (c.in-69.is, c.wrapping_add_u32-next.ensures.value)
+jump-requires c = (c.in-69.is, refl)
 
 pub pop-requires-in-70 : goal.pop-requires-in-70
-pop-requires-in-70 c = (c.requires.0, (c.requires.1, (rw c.in-70.is refl, c.wrapping_add_u32-next.ensures.value)))
+pop-requires-in-70 c = (c.requires.0, (c.requires.1, (rw c.in-70.is refl, refl)))
 
 pub address-requires : goal.address-requires
-address-requires c = (c.in-71.is, (c.requires.1.1, c.wrapping_add_u32-next.ensures.value))
+address-requires c = (c.in-71.is, (c.requires.1.1, refl))
 
 pub from_byte-requires : goal.from_byte-requires
-from_byte-requires c = (c.requires.0, (c.requires.1, (rw c.in-72.is refl, c.wrapping_add_u32-next.ensures.value)))
+from_byte-requires c = (c.requires.0, (c.requires.1, (rw c.in-72.is refl, refl)))
 
 pub from_byte-requires-in-73 : goal.from_byte-requires-in-73
-from_byte-requires-in-73 c = (c.requires.0, (c.requires.1, (rw c.in-73.is refl, c.wrapping_add_u32-next.ensures.value)))
+from_byte-requires-in-73 c = (c.requires.0, (c.requires.1, (rw c.in-73.is refl, refl)))
 
 pub test_bytes-requires : goal.test_bytes-requires
-test_bytes-requires c = (c.in-74.is, (c.requires.1.1, c.wrapping_add_u32-next.ensures.value))
+test_bytes-requires c = (c.in-74.is, (c.requires.1.1, refl))
 
 pub double-requires : goal.double-requires
-double-requires c = (c.in-75.is, (c.requires.1.1, c.wrapping_add_u32-next.ensures.value))
+double-requires c = (c.in-75.is, (c.requires.1.1, refl))
 
 pub times-requires : goal.times-requires
-times-requires c = (c.in-76.is, (c.requires.1.1, c.wrapping_add_u32-next.ensures.value))
+times-requires c = (c.in-76.is, (c.requires.1.1, refl))
 
 pub returns-in-0 : goal.returns-in-0
 returns-in-0 c = c.by_register.ensures _ _ _ _ c.requires.0 c.requires.1

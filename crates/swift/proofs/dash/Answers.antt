@@ -1,4 +1,3 @@
-use borrow.Author.Tests.{not-false}
 use mathlib.Core.Path.{sym, ap, ◌∙◌}
 use Rattle.swift.proofs.Dashing.{not_dashed}
 use borrow.Author.Rules.{rules}

@@ -1,20 +1,18 @@
 use native.Mathlib.Omega.{arith}
-use borrow.Author.Tests.{not-false, not-true}
 use borrow.Author.Rules.{rules}
 use mathlib.Core.Bool.{false≢true}
-use mathlib.Core.Path.{refl, ap, ◌∙◌}
-use Prim.Native.Nat.{◌+◌, ◌-◌, ◌/◌, ◌%◌}
-use Rattle.shortcut.proofs.Small.{other}
-use Rattle.swift.proofs.Hurrying.{three_tests}
+use mathlib.Core.Path.{refl, sym, ap, ◌∙◌}
+use Prim.Native.Nat.{◌+◌, ◌%◌}
+use Rattle.swift.proofs.Hurrying.{two_tests}
 use Rattle.sprints.proofs.Sprinting.{rush_joined}
 use Rattle.hops.proofs.Rushing.{rush_begun, rush_on, rush_ended}
 use Rattle.swift.proofs.rush.Goals as goal
 
-pub turned-h-requires : goal.turned-h-requires
-turned-h-requires c = λ g. absurd (false≢true g)
+pub turned-requires : goal.turned-requires
+turned-requires c = λ g. absurd (false≢true g)
 
 pub loop-n-init : goal.loop-n-init
-loop-n-init c = (search rules, refl, (c.turned-h.ensures), rush_begun _ _ (c.args.c) _, c.requires.0, c.requires.1.0, c.requires.1.1)
+loop-n-init c = (search rules, refl, (c.in-Some.ensures.1), rush_begun _ _ (c.args.c) _, c.requires.0, c.requires.1.0, c.requires.1.1)
 
 pub overflow_sub-limit : goal.overflow_sub-limit
 overflow_sub-limit c = let z = c.loop-n.invariant.0 in search rules
@@ -25,8 +23,8 @@ sprint-w-requires c = (ap (λ x. x % 4096) (c.loop-n.invariant.1) ∙ (c.loop-n.
 pub overflow_add-n : goal.overflow_add-n
 overflow_add-n c = let k = c.sprint-w.ensures.0 in let l = c.loop-n-test.true in let z = c.loop-n.invariant.0 in omega (arith, k, l, z, c.ranges.limit)
 
-pub page_for-k-requires : goal.page_for-k-requires
-page_for-k-requires c = λ g. (c.sprint-w.ensures.1.0.kept) (other (c.sprint-w.result.status) 3 g)
+pub page_for-requires : goal.page_for-requires
+page_for-requires c = λ g. (c.sprint-w.ensures.1.0.kept) (sym c.keeps.ensures ∙ g)
 
 pub shape_of-mem-then-not-n-limit : goal.shape_of-mem-then-not-n-limit
 shape_of-mem-then-not-n-limit c = (c.sprint-w.ensures.1.0.size) ∙ (c.loop-n.invariant.1)
@@ -35,25 +33,28 @@ pub returns-then-not-n-limit : goal.returns-then-not-n-limit
 returns-then-not-n-limit c = let k = c.sprint-w.ensures.0 in let l = c.loop-n-test.true in let z = c.loop-n.invariant.0 in (omega (arith, k, z, l), ((rush_joined _ _ _ _ _ _ _ _ (c.loop-n.invariant.3) _ _ _ _ (c.sprint-w.ensures.1.0.rushed)), c.sprint-w.ensures.1.1))
 
 pub hop-w-requires : goal.hop-w-requires
-hop-w-requires c = let g = three_tests ((c.loop-n.n) + (c.sprint-w.result.count)) (c.args.limit) ((c.sprint-w.result.rest.eip) / 4096) (c.page_for-k.result.page) ((c.sprint-w.result.rest.eip) % 4096) 4080 (c.if-not-n-limit.false) in ((ap (λ x. x % 4096) ((c.sprint-w.ensures.1.0.size) ∙ (c.loop-n.invariant.1)) ∙ (c.loop-n.invariant.4)), (c.loop-n.invariant.5, (c.page_for-k.ensures, (g.1.0, (g.1.1, search rules)))))
+hop-w-requires c = let g = two_tests ((c.loop-n.n) + (c.sprint-w.result.count)) (c.args.limit) ((c.sprint-w.result.rest.eip) % 4096) 4080 (c.if-not-n-limit.false) in ((ap (λ x. x % 4096) ((c.sprint-w.ensures.1.0.size) ∙ (c.loop-n.invariant.1)) ∙ (c.loop-n.invariant.4)), (c.loop-n.invariant.5, (c.in-Some-page_for.ensures.1, (sym c.in-Some-page_for.ensures.0, (g.1, search rules)))))
 
-pub shape_of-mem-then-not-w : goal.shape_of-mem-then-not-w
-shape_of-mem-then-not-w c = (c.hop-w.auto.mem) ∙ (c.sprint-w.ensures.1.0.size) ∙ (c.loop-n.invariant.1)
+pub shape_of-mem-then-not-moves : goal.shape_of-mem-then-not-moves
+shape_of-mem-then-not-moves c = (c.hop-w.auto.mem) ∙ (c.sprint-w.ensures.1.0.size) ∙ (c.loop-n.invariant.1)
 
-pub returns-then-not-w : goal.returns-then-not-w
-returns-then-not-w c = let k = c.sprint-w.ensures.0 in let l = c.loop-n-test.true in let z = c.loop-n.invariant.0 in (omega (arith, k, z, l), (rush_ended _ _ _ _ _ _ _ _ (rush_joined _ _ _ _ _ _ _ _ (c.loop-n.invariant.3) _ _ _ _ (c.sprint-w.ensures.1.0.rushed)) _ _ _ _ _ (c.hop-w.ensures) (not-true _ c.if-not-w.true), c.sprint-w.ensures.1.1))
+pub returns-then-not-moves : goal.returns-then-not-moves
+returns-then-not-moves c = let k = c.sprint-w.ensures.0 in let l = c.loop-n-test.true in let z = c.loop-n.invariant.0 in (omega (arith, k, z, l), (rush_ended _ _ _ _ _ _ _ _ (rush_joined _ _ _ _ _ _ _ _ (c.loop-n.invariant.3) _ _ _ _ (c.sprint-w.ensures.1.0.rushed)) _ _ _ _ _ (c.hop-w.ensures) (sym c.moves.ensures ∙ c.if-not-moves.true), c.sprint-w.ensures.1.1))
 
 pub overflow_add-n-in-loop-n : goal.overflow_add-n-in-loop-n
-overflow_add-n-in-loop-n c = let g = three_tests ((c.loop-n.n) + (c.sprint-w.result.count)) (c.args.limit) ((c.sprint-w.result.rest.eip) / 4096) (c.page_for-k.result.page) ((c.sprint-w.result.rest.eip) % 4096) 4080 (c.if-not-n-limit.false) in omega (arith, g.0, c.ranges.limit)
+overflow_add-n-in-loop-n c = let g = two_tests ((c.loop-n.n) + (c.sprint-w.result.count)) (c.args.limit) ((c.sprint-w.result.rest.eip) % 4096) 4080 (c.if-not-n-limit.false) in omega (arith, g.0, c.ranges.limit)
 
-pub page_for-k-requires-in-loop-n : goal.page_for-k-requires-in-loop-n
-page_for-k-requires-in-loop-n c = λ g. (c.hop-w.ensures.kept) g
+pub page_for-requires-in-loop-n : goal.page_for-requires-in-loop-n
+page_for-requires-in-loop-n c = λ g. (c.hop-w.ensures.kept) (sym c.keeps-in-loop-n.ensures ∙ g)
+
+pub returns-in_default-page_for-2 : goal.returns-in_default-page_for-2
+returns-in_default-page_for-2 c = let g = two_tests ((c.loop-n.n) + (c.sprint-w.result.count)) (c.args.limit) ((c.sprint-w.result.rest.eip) % 4096) 4080 (c.if-not-n-limit.false) in (omega (arith, g.0), (rush_on _ _ _ _ _ _ _ _ (rush_joined _ _ _ _ _ _ _ _ (c.loop-n.invariant.3) _ _ _ _ (c.sprint-w.ensures.1.0.rushed)) _ _ _ _ _ (c.hop-w.ensures) (sym c.moves.ensures ∙ c.if-not-moves.false), c.sprint-w.ensures.1.1))
 
 pub loop-n-smaller : goal.loop-n-smaller
-loop-n-smaller c = let g = three_tests ((c.loop-n.n) + (c.sprint-w.result.count)) (c.args.limit) ((c.sprint-w.result.rest.eip) / 4096) (c.page_for-k.result.page) ((c.sprint-w.result.rest.eip) % 4096) 4080 (c.if-not-n-limit.false) in let k = c.sprint-w.ensures.0 in let l = c.loop-n-test.true in let z = c.loop-n.invariant.0 in omega (arith, g.0, k, l, z)
+loop-n-smaller c = let g = two_tests ((c.loop-n.n) + (c.sprint-w.result.count)) (c.args.limit) ((c.sprint-w.result.rest.eip) % 4096) 4080 (c.if-not-n-limit.false) in let k = c.sprint-w.ensures.0 in let l = c.loop-n-test.true in let z = c.loop-n.invariant.0 in omega (arith, g.0, k, l, z)
 
 pub loop-n-preserved : goal.loop-n-preserved
-loop-n-preserved c = let g = three_tests ((c.loop-n.n) + (c.sprint-w.result.count)) (c.args.limit) ((c.sprint-w.result.rest.eip) / 4096) (c.page_for-k.result.page) ((c.sprint-w.result.rest.eip) % 4096) 4080 (c.if-not-n-limit.false) in (omega (arith, g.0), (c.hop-w.auto.mem) ∙ (c.sprint-w.ensures.1.0.size) ∙ (c.loop-n.invariant.1), c.page_for-k-in-loop-n.ensures, rush_on _ _ _ _ _ _ _ _ (rush_joined _ _ _ _ _ _ _ _ (c.loop-n.invariant.3) _ _ _ _ (c.sprint-w.ensures.1.0.rushed)) _ _ _ _ _ (c.hop-w.ensures) (not-false _ c.if-not-w.false), c.loop-n.invariant.4, c.loop-n.invariant.5, c.sprint-w.ensures.1.1)
+loop-n-preserved c = let g = two_tests ((c.loop-n.n) + (c.sprint-w.result.count)) (c.args.limit) ((c.sprint-w.result.rest.eip) % 4096) 4080 (c.if-not-n-limit.false) in (omega (arith, g.0), (c.hop-w.auto.mem) ∙ (c.sprint-w.ensures.1.0.size) ∙ (c.loop-n.invariant.1), c.in-Some-page_for-2.ensures.1, rush_on _ _ _ _ _ _ _ _ (rush_joined _ _ _ _ _ _ _ _ (c.loop-n.invariant.3) _ _ _ _ (c.sprint-w.ensures.1.0.rushed)) _ _ _ _ _ (c.hop-w.ensures) (sym c.moves.ensures ∙ c.if-not-moves.false), c.loop-n.invariant.4, c.loop-n.invariant.5, c.sprint-w.ensures.1.1)
 
 pub shape_of-mem : goal.shape_of-mem
 shape_of-mem c = c.loop-n.invariant.1

@@ -1,14 +1,13 @@
 use Rattle.std.proofs.Common.{◌<◌, rules}
 use Rattle.strides.proofs.Reaching.{dword_there, loaded}
 use Rattle.strides.proofs.Standing.{stays}
-use borrow.Author.Tests.{not-false}
 use Rattle.strides.proofs.memory.load.Goals as goal
 
-pub returns-then-not-q : goal.returns-then-not-q
-returns-then-not-q c = stays _ _ c.args.c c.args.r c.args.h _ c.args.f c.requires.0 c.stuck.ensures
+pub returns-in_default : goal.returns-in_default
+returns-in_default c = stays _ _ c.args.c c.args.r c.args.h _ c.args.f c.requires.0 c.stuck.ensures
 
 pub present_dword-requires : goal.present_dword-requires
-present_dword-requires c = (dword_there c.requires.0 (c.reach-q.ensures (not-false _ c.if-not-q.false))).0
+present_dword-requires c = (dword_there c.requires.0 c.in-Some.ensures).0
 
 pub returns : goal.returns
-returns c = let few : c.present_dword.result < 4294967296 = search rules in rw c.onward.ensures (loaded _ _ c.args.c c.args.r c.args.h _ c.args.f c.requires.0 c.requires.1.0 c.eight.ensures.1 c.spot.ensures (c.reach-q.ensures (not-false _ c.if-not-q.false)) c.requires.1.1.1 c.requires.1.1.0 c.present_dword.ensures few c.put.ensures)
+returns c = let few : c.present_dword.result < 4294967296 = search rules in rw c.onward.ensures (loaded _ _ c.args.c c.args.r c.args.h _ c.args.f c.requires.0 c.requires.1.0 c.eight.ensures.1 c.spot.ensures c.in-Some.ensures c.requires.1.1.1 c.requires.1.1.0 c.present_dword.ensures few c.put.ensures)

@@ -1,6 +1,0 @@
-use Rattle.operands.specs.Operands.{address}
-use Rattle.operands.proofs.address.Goals as goal
-
-pub returns : goal.returns
-unfolding address
-returns c = cc

@@ -1,4 +1,0 @@
-use Rattle.operands.proofs.onward.Goals as goal
-
-pub returns : goal.returns
-returns c = cc
