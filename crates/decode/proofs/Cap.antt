@@ -12,9 +12,10 @@ use Rattle.machine.specs.declared.Reply.{Reply}
 use Rattle.machine.specs.Record.{wrap}
 use Rattle.machine.specs.Paging.{View, Seen, Byte, Refused}
 use Rattle.machine.specs.Act.{Act, Res, ok, refuse, Log, after, ◌>>=◌, return, stop, noted, byte, counted, fetched_so_far, fetch}
+use Rattle.encoding.specs.declared.Class.{Class}
 use Rattle.encoding.specs.declared.Instruction.{Instruction}
 use Rattle.encoding.specs.declared.Operand.{Operand}
-use Rattle.encoding.specs.Encodings.{class_of, not_built, override, escape, undefined}
+use Rattle.encoding.specs.Encodings.{class_of, is_not_built, is_override, is_escape, is_undefined}
 use Rattle.encoding.specs.Attributes.{reg_field, has_modrm, has_offset, undefined_form, unbuilt_form, immediate_bytes, implied_register}
 use Rattle.fetch.specs.Fetch.{fetch_signed, fetch_word, fetch_dword, number}
 use Rattle.fetch.specs.Read.{log_at}
@@ -77,11 +78,11 @@ keeps_fetch eip = some (adds_fetch eip)
 adds_prefixed : (n eip : ℕ) → Adds 1 (prefixed n eip)
 unfolding prefixed
 adds_prefixed zero eip = halt
-adds_prefixed (suc n) eip = bind (adds_fetch eip) (λ b. either (eqb (class_of b) override) (some (adds_prefixed n eip)) give)
+adds_prefixed (suc n) eip = bind (adds_fetch eip) (λ b. either (is_override (class_of b)) (some (adds_prefixed n eip)) give)
 
 adds_opcode : (eip : ℕ) → Adds 1 (opcode eip)
 unfolding opcode escaped
-adds_opcode eip = bind (adds_prefixed 16 eip) (λ b. either (eqb (class_of b) escape) (bind (keeps_fetch eip) (λ c. give)) give)
+adds_opcode eip = bind (adds_prefixed 16 eip) (λ b. either (is_escape (class_of b)) (bind (keeps_fetch eip) (λ c. give)) give)
 
 keeps_number : (eip n : ℕ) → Adds 0 (number eip n)
 unfolding number fetch_signed fetch_word fetch_dword
@@ -102,19 +103,19 @@ keeps_modrm eip b =
     (either (eqb (b % 8) 4) (bind (keeps_fetch eip) (keeps_sib eip (b / 64)))
     (either (eqb (b / 64) 0 && eqb (b % 8) 5) (bind (keeps_number eip 4) (λ x. give)) (bind (keeps_number eip (displacement_bytes (b / 64))) (λ x. give))))
 
-keeps_judged : (eip c m : ℕ) → Adds 0 (judged eip c m)
+keeps_judged : (eip : ℕ) (c : Class) (m : ℕ) → Adds 0 (judged eip c m)
 unfolding judged
 keeps_judged eip c m = either (undefined_form c m) halt (either (unbuilt_form c m) halt give)
 
-keeps_finish : (eip c b reg : ℕ) (o : Operand) → Adds 0 (finish eip c b reg o)
+keeps_finish : (eip : ℕ) (c : Class) (b reg : ℕ) (o : Operand) → Adds 0 (finish eip c b reg o)
 unfolding finish
 keeps_finish eip c b reg o = bind (keeps_number eip (immediate_bytes c b reg)) (λ x. bind counts (λ n. give))
 
-keeps_classed : (eip c b : ℕ) → Adds 0 (classed eip c b)
+keeps_classed : (eip : ℕ) (c : Class) (b : ℕ) → Adds 0 (classed eip c b)
 unfolding classed with_modrm with_offset
 keeps_classed eip c b =
-    either (eqb c not_built) halt
-    (either (eqb c undefined) halt
+    either (is_not_built c) halt
+    (either (is_undefined c) halt
     (either (has_modrm c) (bind (keeps_fetch eip) (λ m. bind (keeps_judged eip c m) (λ t. bind (keeps_modrm eip m) (keeps_finish eip c b (reg_field m)))))
     (either (has_offset c) (bind (keeps_number eip 4) (λ x. keeps_finish eip c b 0 (in_memory 8 8 1 x))) (keeps_finish eip c b 0 (in_register (implied_register c b))))))
 

@@ -1,10 +1,9 @@
 -- How the answers of the decoder's functions compose.
 -- Assumes nothing.
 use Prim.Native.Nat.{ℕ, suc, ◌+◌, ◌-◌, ◌<◌, ◌≤◌}
-use mathlib.Core.Path.{◌≡◌, sym}
+use mathlib.Core.Path.{◌≡◌, refl, sym}
 use mathlib.Core.Bool.{true, false}
 use native.Mathlib.Omega.{arith}
-use lib.Dec.{eqb}
 use Rattle.std.specs.Prelude.{Ok, Err}
 use Rattle.machine.specs.Record.{Mem}
 use Rattle.machine.specs.declared.Control.{Control}
@@ -12,8 +11,10 @@ use Rattle.machine.specs.declared.Reply.{Reply}
 use Rattle.machine.specs.declared.Reply.TheVariants.{Fault}
 use Rattle.machine.specs.Paging.{view}
 use Rattle.machine.specs.Act.{Res, ok, refuse, fetch}
+use Rattle.encoding.specs.declared.Class.{Class}
+use Rattle.encoding.specs.declared.Class.TheVariants.{NotBuilt, Override, Escape, Undefined}
 use Rattle.encoding.specs.declared.Operand.{Operand}
-use Rattle.encoding.specs.Encodings.{class_of, override}
+use Rattle.encoding.specs.Encodings.{class_of, is_not_built, is_override, is_escape, is_undefined}
 use Rattle.fetch.specs.Read.{log_at}
 use Rattle.decode.specs.declared.Formed.{Formed}
 use Rattle.decode.specs.Decode.{prefixed}
@@ -33,11 +34,11 @@ module _ (m : Mem) (c : Control) (eip n b k : ℕ) (h : n < 16) (e : fetch eip (
   left_one : 16 - n ≡ suc (16 - (n + 1))
   left_one = omega arith
 
-  pub override_on : k ≡ n + 1 → eqb (class_of b) override ≡ true → prefixed (16 - n) eip (view m c) (log_at eip n) ≡ prefixed (16 - (n + 1)) eip (view m c) (log_at eip (n + 1))
+  pub override_on : k ≡ n + 1 → is_override (class_of b) ≡ true → prefixed (16 - n) eip (view m c) (log_at eip n) ≡ prefixed (16 - (n + 1)) eip (view m c) (log_at eip (n + 1))
   unfolding prefixed
   override_on nk o = rw (left_one, e, o, nk)
 
-  pub override_off : eqb (class_of b) override ≡ false → prefixed (16 - n) eip (view m c) (log_at eip n) ≡ ok b (log_at eip k)
+  pub override_off : is_override (class_of b) ≡ false → prefixed (16 - n) eip (view m c) (log_at eip n) ≡ ok b (log_at eip k)
   unfolding prefixed
   override_off o = rw (left_one, e, o)
 
@@ -48,3 +49,21 @@ override_miss m c eip n q h e = let l : 16 - n ≡ suc (16 - (n + 1)) = omega ar
 pub override_end : (m : Mem) (c : Control) (eip n : ℕ) → 16 ≤ n → prefixed (16 - n) eip (view m c) (log_at eip n) ≡ refuse (Fault 13 0 0)
 unfolding prefixed
 override_end m c eip n k = let l : 16 - n ≡ 0 = omega arith in rw l
+
+-- ---- a class that a match leaves over
+
+pub no_override : (c : Class) → (c ≡ Override → ⊥) → is_override c ≡ false
+no_override Override h = absurd (h refl)
+no_override _ h = refl
+
+pub no_escape : (c : Class) → (c ≡ Escape → ⊥) → is_escape c ≡ false
+no_escape Escape h = absurd (h refl)
+no_escape _ h = refl
+
+pub is_built : (c : Class) → (c ≡ NotBuilt → ⊥) → is_not_built c ≡ false
+is_built NotBuilt h = absurd (h refl)
+is_built _ h = refl
+
+pub is_defined : (c : Class) → (c ≡ Undefined → ⊥) → is_undefined c ≡ false
+is_defined Undefined h = absurd (h refl)
+is_defined _ h = refl

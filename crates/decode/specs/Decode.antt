@@ -3,9 +3,10 @@
 use Rattle.std.specs.Prelude.{ℕ, zero, suc, ◌+◌, ◌/◌, ◌%◌, true, false, cond, ◌&&◌, ltb, leb, eqb}
 use Rattle.machine.specs.declared.Reply.TheVariants.{Fault, NotBuilt}
 use Rattle.machine.specs.Act.{Act, ◌>>=◌, ◌>>◌, return, stop, unit, fetch, fetched_so_far}
+use Rattle.encoding.specs.declared.Class.{Class}
 use Rattle.encoding.specs.declared.Operand.{Operand}
 use Rattle.encoding.specs.declared.Instruction.{Instruction}
-use Rattle.encoding.specs.Encodings.{class_of, not_built, override, escape, undefined}
+use Rattle.encoding.specs.Encodings.{class_of, is_not_built, is_override, is_escape, is_undefined}
 use Rattle.encoding.specs.Attributes.{reg_field, has_modrm, has_offset, undefined_form, unbuilt_form, is_wide, immediate_bytes, immediate_of, implied_register, family_of, operation_of}
 use Rattle.fetch.specs.Fetch.{number}
 
@@ -16,7 +17,7 @@ unfoldable pub prefixed : ℕ → ℕ → Act ℕ
 prefixed zero eip = stop (Fault 13 0 0)
 prefixed (suc n) eip = do
   b ← fetch eip
-  cond (eqb (class_of b) override) (prefixed n eip) (return b)
+  cond (is_override (class_of b)) (prefixed n eip) (return b)
 
 unfoldable pub escaped : ℕ → Act ℕ
 escaped eip = do
@@ -27,7 +28,7 @@ escaped eip = do
 unfoldable pub opcode : ℕ → Act ℕ
 opcode eip = do
   b ← prefixed 16 eip
-  cond (eqb (class_of b) escape) (escaped eip) (return b)
+  cond (is_escape (class_of b)) (escaped eip) (return b)
 
 -- ---- ModRM and SIB: an operand in a register, or in memory at base plus index times scale plus displacement; base or index 8 is none
 
@@ -71,11 +72,11 @@ after_modrm eip b =
 -- ---- the instruction
 
 -- the ModRM byte settles these refusals
-unfoldable pub judged : ℕ → ℕ → ℕ → Act unit
+unfoldable pub judged : ℕ → Class → ℕ → Act unit
 judged eip c m =
     cond (undefined_form c m) (stop (Fault 6 0 0)) (cond (unbuilt_form c m) (stop (NotBuilt eip)) (return tt))
 
-unfoldable pub finish : ℕ → ℕ → ℕ → ℕ → Operand → Act Instruction
+unfoldable pub finish : ℕ → Class → ℕ → ℕ → Operand → Act Instruction
 finish eip c b reg o = do
   x ← number eip (immediate_bytes c b reg)
   n ← fetched_so_far
@@ -89,22 +90,22 @@ finish eip c b reg o = do
     length = n;
   })
 
-unfoldable pub with_modrm : ℕ → ℕ → ℕ → Act Instruction
+unfoldable pub with_modrm : ℕ → Class → ℕ → Act Instruction
 with_modrm eip c b = do
   m ← fetch eip
   judged eip c m
   o ← after_modrm eip m
   finish eip c b (reg_field m) o
 
-unfoldable pub with_offset : ℕ → ℕ → ℕ → Act Instruction
+unfoldable pub with_offset : ℕ → Class → ℕ → Act Instruction
 with_offset eip c b = do
   x ← number eip 4
   finish eip c b 0 (in_memory 8 8 1 x)
 
-unfoldable pub classed : ℕ → ℕ → ℕ → Act Instruction
+unfoldable pub classed : ℕ → Class → ℕ → Act Instruction
 classed eip c b =
-    cond (eqb c not_built) (stop (NotBuilt eip))
-    (cond (eqb c undefined) (stop (Fault 6 0 0))
+    cond (is_not_built c) (stop (NotBuilt eip))
+    (cond (is_undefined c) (stop (Fault 6 0 0))
     (cond (has_modrm c) (with_modrm eip c b)
     (cond (has_offset c) (with_offset eip c b) (finish eip c b 0 (in_register (implied_register c b))))))
 

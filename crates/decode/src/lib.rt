@@ -8,7 +8,7 @@ ghost use Rattle.fetch.specs.Read.{log_at};
 ghost use Rattle.decode.specs.Decode.{scale_of, index_of, displacement_bytes, displaced, after_sib, after_modrm, finish, with_modrm, with_offset, classed, decode};
 ghost use Rattle.decode.specs.Read.{shown, PrefixOk, OpcodeOk, formed_of, ready_of};
 
-use encoding::{Instruction, Operand};
+use encoding::{Class, Instruction, Operand};
 use fetch::{Code, Fetched};
 use machine::{Control, Reply};
 
@@ -26,8 +26,9 @@ fn prefixed(s: &Code, t: &[u8; 512]) -> Result<Fetched, Reply>
 {
     for n in 0..16 {
         let byte = s.byte(n)?;
-        if encoding::class_in(t, byte.value) != encoding::OVERRIDE {
-            return Ok(byte);
+        match encoding::class_in(t, byte.value) {
+            Class::Override => {}
+            _ => return Ok(byte),
         }
     }
     Err(Reply::Fault(13, 0, 0))
@@ -39,8 +40,9 @@ fn opcode(s: &Code, t: &[u8; 512]) -> Result<Fetched, Reply>
     ensures { OpcodeOk s.now result }
 {
     let first = prefixed(s, t)?;
-    if encoding::class_in(t, first.value) != encoding::ESCAPE {
-        return Ok(first);
+    match encoding::class_in(t, first.value) {
+        Class::Escape => {}
+        _ => return Ok(first),
     }
     let second = s.byte(first.length)?;
     Ok(Fetched {
@@ -151,7 +153,7 @@ fn after_modrm(s: &Code, n: u32, b: u32) -> Result<Formed, Reply>
 }
 
 // The immediate, and the whole instruction.
-fn finish(s: &Code, n: u32, c: u32, b: u32, reg: u32, o: Operand) -> Result<Instruction, Reply>
+fn finish(s: &Code, n: u32, c: Class, b: u32, reg: u32, o: Operand) -> Result<Instruction, Reply>
     ensures { ready_of s.now.eip result ≡ finish s.now.eip c b reg o (shown s.now) (log_at s.now.eip n) }
 {
     let immediate = s.number(n, encoding::immediate_bytes(c, b, reg))?;
@@ -166,7 +168,7 @@ fn finish(s: &Code, n: u32, c: u32, b: u32, reg: u32, o: Operand) -> Result<Inst
     })
 }
 
-fn with_modrm(s: &Code, n: u32, c: u32, b: u32) -> Result<Instruction, Reply>
+fn with_modrm(s: &Code, n: u32, c: Class, b: u32) -> Result<Instruction, Reply>
     ensures { ready_of s.now.eip result ≡ with_modrm s.now.eip c b (shown s.now) (log_at s.now.eip n) }
 {
     let modrm = s.byte(n)?;
@@ -182,7 +184,7 @@ fn with_modrm(s: &Code, n: u32, c: u32, b: u32) -> Result<Instruction, Reply>
 }
 
 // A0 to A3: the address stands in the instruction.
-fn with_offset(s: &Code, n: u32, c: u32, b: u32) -> Result<Instruction, Reply>
+fn with_offset(s: &Code, n: u32, c: Class, b: u32) -> Result<Instruction, Reply>
     ensures { ready_of s.now.eip result ≡ with_offset s.now.eip c b (shown s.now) (log_at s.now.eip n) }
 {
     let x = s.number(n, 4)?;
@@ -197,14 +199,13 @@ fn with_offset(s: &Code, n: u32, c: u32, b: u32) -> Result<Instruction, Reply>
     finish(s, x.length, c, b, 0, o)
 }
 
-fn classed(s: &Code, n: u32, c: u32, b: u32) -> Result<Instruction, Reply>
+fn classed(s: &Code, n: u32, c: Class, b: u32) -> Result<Instruction, Reply>
     ensures { ready_of s.now.eip result ≡ classed s.now.eip c b (shown s.now) (log_at s.now.eip n) }
 {
-    if c == encoding::NOT_BUILT {
-        return Err(Reply::NotBuilt(s.eip));
-    }
-    if c == encoding::UNDEFINED {
-        return Err(Reply::Fault(6, 0, 0));
+    match c {
+        Class::NotBuilt => return Err(Reply::NotBuilt(s.eip)),
+        Class::Undefined => return Err(Reply::Fault(6, 0, 0)),
+        _ => {}
     }
     if encoding::has_modrm(c) {
         return with_modrm(s, n, c, b);

@@ -4,107 +4,171 @@
 mod opcodes;
 
 ghost use Rattle.std.specs.Prelude.{◌≡◌, cond, ◌<◌};
-ghost use Rattle.encoding.specs.Encodings.{class_of, Classed};
-ghost use Rattle.encoding.specs.Attributes.{has_modrm, has_offset, is_shift, undefined_form, unbuilt_form, by_low_bit, is_wide, full_immediate, long_opcode, has_immediate, immediate_bytes, immediate_of, implied_register, combination, single, is_to, is_from, is_combined, is_single, group_family, other_family, flow_family, move_family, arithmetic_family, family_of, operation_of};
+ghost use Rattle.encoding.specs.Encodings.{class_at, class_of, Classed};
+ghost use Rattle.encoding.specs.Attributes.{has_modrm, has_offset, undefined_form, unbuilt_form, by_low_bit, is_wide, full_immediate, long_opcode, has_immediate, immediate_bytes, immediate_of, implied_register, combination, single, is_to, is_from, is_immediate, is_combined, is_single, group_family, own_family, family_of, operation_of};
 
-// The classes of specs/Encodings.
-pub const NOT_BUILT: u32 = 0;
+// The kind of an opcode; specs/Encodings lists which opcodes have which.
+#[derive(Clone, Copy, PartialEq, Eq)]
+pub enum Class {
+    // not listed
+    NotBuilt,
+    // 26 2E 36 3E 64 65, without effect
+    Override,
+    // 0F: the opcode is the next byte
+    Escape,
+    // 0F 0B
+    Undefined,
+    // ADD to CMP on an r/m operand by a register
+    ArithmeticTo,
+    // ADD to CMP on a register by an r/m operand
+    ArithmeticFrom,
+    // ADD to CMP on the accumulator by an immediate
+    ArithmeticAccumulator,
+    // 80 to 83: ADD to CMP on an r/m operand by an immediate
+    ArithmeticGroup,
+    // TEST 84 85
+    TestTo,
+    // TEST A8 A9
+    TestAccumulator,
+    // F6 F7: TEST NOT NEG MUL IMUL DIV IDIV, by the reg field
+    UnaryGroup,
+    // MOV 88 89
+    MoveTo,
+    // MOV 8A 8B
+    MoveFrom,
+    // MOV A0 A1, from an address in the instruction
+    MoveFromOffset,
+    // MOV A2 A3
+    MoveToOffset,
+    // MOV B0 to BF
+    MoveRegister,
+    // MOV C6 C7
+    MoveGroup,
+    // MOVZX 0F B6
+    ExtendZero,
+    // MOVSX 0F BE
+    ExtendSign,
+    // LEA
+    LoadAddress,
+    // XCHG 86 87
+    Exchange,
+    // XCHG 90 to 97
+    ExchangeAccumulator,
+    // INC 40 to 47
+    IncrementRegister,
+    // DEC 48 to 4F
+    DecrementRegister,
+    // FE: INC DEC
+    ByteGroup,
+    // FF: INC DEC CALL JMP PUSH
+    DwordGroup,
+    // PUSH 50 to 57
+    PushRegister,
+    // PUSH 68 6A
+    PushImmediate,
+    // POP 58 to 5F
+    PopRegister,
+    // POP 8F
+    PopGroup,
+    // C0 C1: SHL SHR SAR by an immediate
+    ShiftImmediate,
+    // D0 D1: SHL SHR SAR by one place
+    ShiftOne,
+    // D2 D3: SHL SHR SAR by CL
+    ShiftCl,
+    // IMUL 69 6B
+    MultiplyImmediate,
+    // IMUL 0F AF
+    MultiplyRegister,
+    // CWDE 98, CDQ 99
+    Widen,
+    // Jcc 70 to 7F
+    JumpIf,
+    // Jcc 0F 80 to 8F
+    JumpIfNear,
+    // SETcc 0F 90 to 9F
+    SetIf,
+    // JMP EB E9
+    JumpBy,
+    // CALL E8
+    CallBy,
+    // RET C3
+    ReturnPlain,
+    // RET C2
+    ReturnPopping,
+    // LOOP forms E0 to E2, and E3
+    LoopBy,
+    // CMC F5, CLC STC CLI STI CLD STD F8 to FD
+    FlagOperation,
+    // SAHF 9E, LAHF 9F
+    FlagTransfer,
+    // INT3 CC
+    Breakpoint,
+    // INT CD
+    Interrupt,
+    // HLT F4
+    HaltHere,
+}
 
-pub const OVERRIDE: u32 = 1;
+// The class with this number in the table.
+impl From<u8> for Class {
+    ghost from_gives = { λ n c. c ≡ class_at n };
 
-pub const ESCAPE: u32 = 2;
-
-pub const UNDEFINED: u32 = 3;
-
-pub const ARITHMETIC_TO: u32 = 4;
-
-pub const ARITHMETIC_FROM: u32 = 5;
-
-pub const ARITHMETIC_ACCUMULATOR: u32 = 6;
-
-pub const ARITHMETIC_GROUP: u32 = 7;
-
-pub const TEST_TO: u32 = 8;
-
-pub const TEST_ACCUMULATOR: u32 = 9;
-
-pub const UNARY_GROUP: u32 = 10;
-
-pub const MOVE_TO: u32 = 11;
-
-pub const MOVE_FROM: u32 = 12;
-
-pub const MOVE_FROM_OFFSET: u32 = 13;
-
-pub const MOVE_TO_OFFSET: u32 = 14;
-
-pub const MOVE_REGISTER: u32 = 15;
-
-pub const MOVE_GROUP: u32 = 16;
-
-pub const EXTEND_ZERO: u32 = 17;
-
-pub const EXTEND_SIGN: u32 = 18;
-
-pub const LOAD_ADDRESS: u32 = 19;
-
-pub const EXCHANGE: u32 = 20;
-
-pub const EXCHANGE_ACCUMULATOR: u32 = 21;
-
-pub const INCREMENT_REGISTER: u32 = 22;
-
-pub const DECREMENT_REGISTER: u32 = 23;
-
-pub const BYTE_GROUP: u32 = 24;
-
-pub const DWORD_GROUP: u32 = 25;
-
-pub const PUSH_REGISTER: u32 = 26;
-
-pub const PUSH_IMMEDIATE: u32 = 27;
-
-pub const POP_REGISTER: u32 = 28;
-
-pub const POP_GROUP: u32 = 29;
-
-pub const SHIFT_IMMEDIATE: u32 = 30;
-
-pub const SHIFT_ONE: u32 = 31;
-
-pub const SHIFT_CL: u32 = 32;
-
-pub const MULTIPLY_IMMEDIATE: u32 = 33;
-
-pub const MULTIPLY_REGISTER: u32 = 34;
-
-pub const WIDEN: u32 = 35;
-
-pub const JUMP_IF: u32 = 36;
-
-pub const JUMP_IF_NEAR: u32 = 37;
-
-pub const SET_IF: u32 = 38;
-
-pub const JUMP_BY: u32 = 39;
-
-pub const CALL_BY: u32 = 40;
-
-pub const RETURN_PLAIN: u32 = 41;
-
-pub const RETURN_POPPING: u32 = 42;
-
-pub const LOOP_BY: u32 = 43;
-
-pub const FLAG_OPERATION: u32 = 44;
-
-pub const FLAG_TRANSFER: u32 = 45;
-
-pub const BREAKPOINT: u32 = 46;
-
-pub const INTERRUPT: u32 = 47;
-
-pub const HALT_HERE: u32 = 48;
+    fn from(n: u8) -> Class {
+        match n {
+            0 => Class::NotBuilt,
+            1 => Class::Override,
+            2 => Class::Escape,
+            3 => Class::Undefined,
+            4 => Class::ArithmeticTo,
+            5 => Class::ArithmeticFrom,
+            6 => Class::ArithmeticAccumulator,
+            7 => Class::ArithmeticGroup,
+            8 => Class::TestTo,
+            9 => Class::TestAccumulator,
+            10 => Class::UnaryGroup,
+            11 => Class::MoveTo,
+            12 => Class::MoveFrom,
+            13 => Class::MoveFromOffset,
+            14 => Class::MoveToOffset,
+            15 => Class::MoveRegister,
+            16 => Class::MoveGroup,
+            17 => Class::ExtendZero,
+            18 => Class::ExtendSign,
+            19 => Class::LoadAddress,
+            20 => Class::Exchange,
+            21 => Class::ExchangeAccumulator,
+            22 => Class::IncrementRegister,
+            23 => Class::DecrementRegister,
+            24 => Class::ByteGroup,
+            25 => Class::DwordGroup,
+            26 => Class::PushRegister,
+            27 => Class::PushImmediate,
+            28 => Class::PopRegister,
+            29 => Class::PopGroup,
+            30 => Class::ShiftImmediate,
+            31 => Class::ShiftOne,
+            32 => Class::ShiftCl,
+            33 => Class::MultiplyImmediate,
+            34 => Class::MultiplyRegister,
+            35 => Class::Widen,
+            36 => Class::JumpIf,
+            37 => Class::JumpIfNear,
+            38 => Class::SetIf,
+            39 => Class::JumpBy,
+            40 => Class::CallBy,
+            41 => Class::ReturnPlain,
+            42 => Class::ReturnPopping,
+            43 => Class::LoopBy,
+            44 => Class::FlagOperation,
+            45 => Class::FlagTransfer,
+            46 => Class::Breakpoint,
+            47 => Class::Interrupt,
+            48 => Class::HaltHere,
+            _ => Class::NotBuilt,
+        }
+    }
+}
 
 // An r/m operand: a register, or memory at base plus index times scale plus displacement, where base or index 8 is none.
 #[derive(Clone, Copy)]
@@ -196,109 +260,125 @@ pub fn classes() -> [u8; 512]
     opcodes::CLASSES
 }
 
-fn wide(x: u8) -> u32
-    ensures { result ≡ x }
-{
-    x as u32
-}
-
-pub fn class_in(t: &[u8; 512], n: u32) -> u32
+pub fn class_in(t: &[u8; 512], n: u32) -> Class
     requires { (Classed t.now) × (n < 512) }
     ensures { result ≡ class_of n }
 {
-    wide(t[n as usize])
+    Class::from(t[n as usize])
 }
 
-pub fn has_modrm(c: u32) -> bool
+pub fn has_modrm(c: Class) -> bool
     ensures { result ≡ has_modrm c }
 {
-    (c == ARITHMETIC_TO)
-        | (c == ARITHMETIC_FROM)
-        | (c == ARITHMETIC_GROUP)
-        | (c == TEST_TO)
-        | (c == UNARY_GROUP)
-        | (c == MOVE_TO)
-        | (c == MOVE_FROM)
-        | (c == MOVE_GROUP)
-        | (c == EXTEND_ZERO)
-        | (c == EXTEND_SIGN)
-        | (c == LOAD_ADDRESS)
-        | (c == EXCHANGE)
-        | (c == BYTE_GROUP)
-        | (c == DWORD_GROUP)
-        | (c == POP_GROUP)
-        | (c == SHIFT_IMMEDIATE)
-        | (c == SHIFT_ONE)
-        | (c == SHIFT_CL)
-        | (c == MULTIPLY_IMMEDIATE)
-        | (c == MULTIPLY_REGISTER)
-        | (c == SET_IF)
+    matches!(
+        c,
+        Class::ArithmeticTo
+            | Class::ArithmeticFrom
+            | Class::ArithmeticGroup
+            | Class::TestTo
+            | Class::UnaryGroup
+            | Class::MoveTo
+            | Class::MoveFrom
+            | Class::MoveGroup
+            | Class::ExtendZero
+            | Class::ExtendSign
+            | Class::LoadAddress
+            | Class::Exchange
+            | Class::ByteGroup
+            | Class::DwordGroup
+            | Class::PopGroup
+            | Class::ShiftImmediate
+            | Class::ShiftOne
+            | Class::ShiftCl
+            | Class::MultiplyImmediate
+            | Class::MultiplyRegister
+            | Class::SetIf
+    )
 }
 
-pub fn has_offset(c: u32) -> bool
+pub fn has_offset(c: Class) -> bool
     ensures { result ≡ has_offset c }
 {
-    (c == MOVE_FROM_OFFSET) | (c == MOVE_TO_OFFSET)
-}
-
-fn is_shift(c: u32) -> bool
-    ensures { result ≡ is_shift c }
-{
-    (c == SHIFT_IMMEDIATE) | (c == SHIFT_ONE) | (c == SHIFT_CL)
+    matches!(c, Class::MoveFromOffset | Class::MoveToOffset)
 }
 
 // Fault 6 by name, which the ModRM byte m settles.
-pub fn undefined_form(c: u32, m: u32) -> bool
+pub fn undefined_form(c: Class, m: u32) -> bool
     ensures { result ≡ undefined_form c m }
 {
     let reg = m / 8 % 8;
-    ((c == LOAD_ADDRESS) & (192 <= m))
-        | (((c == MOVE_GROUP) | (c == POP_GROUP)) & !(reg == 0))
-        | ((c == BYTE_GROUP) & (2 <= reg))
-        | ((c == DWORD_GROUP) & (reg == 7))
+    match c {
+        Class::LoadAddress => 192 <= m,
+        Class::MoveGroup | Class::PopGroup => !(reg == 0),
+        Class::ByteGroup => 2 <= reg,
+        Class::DwordGroup => reg == 7,
+        _ => false,
+    }
 }
 
 // The forms of a group that are not listed.
-pub fn unbuilt_form(c: u32, m: u32) -> bool
+pub fn unbuilt_form(c: Class, m: u32) -> bool
     ensures { result ≡ unbuilt_form c m }
 {
     let reg = m / 8 % 8;
-    ((c == UNARY_GROUP) & (reg == 1))
-        | ((c == DWORD_GROUP) & ((reg == 3) | (reg == 5)))
-        | (is_shift(c) & ((reg < 4) | (reg == 6)))
+    match c {
+        Class::UnaryGroup => reg == 1,
+        Class::DwordGroup => (reg == 3) | (reg == 5),
+        Class::ShiftImmediate | Class::ShiftOne | Class::ShiftCl => (reg < 4) | (reg == 6),
+        _ => false,
+    }
 }
 
-fn by_low_bit(c: u32) -> bool
+fn by_low_bit(c: Class) -> bool
     ensures { result ≡ by_low_bit c }
 {
-    ((ARITHMETIC_TO <= c) & (c <= MOVE_TO_OFFSET))
-        | (c == MOVE_GROUP)
-        | (c == EXCHANGE)
-        | (c == BYTE_GROUP)
-        | (c == DWORD_GROUP)
-        | is_shift(c)
+    matches!(
+        c,
+        Class::ArithmeticTo
+            | Class::ArithmeticFrom
+            | Class::ArithmeticAccumulator
+            | Class::ArithmeticGroup
+            | Class::TestTo
+            | Class::TestAccumulator
+            | Class::UnaryGroup
+            | Class::MoveTo
+            | Class::MoveFrom
+            | Class::MoveFromOffset
+            | Class::MoveToOffset
+            | Class::MoveGroup
+            | Class::Exchange
+            | Class::ByteGroup
+            | Class::DwordGroup
+            | Class::ShiftImmediate
+            | Class::ShiftOne
+            | Class::ShiftCl
+    )
 }
 
-pub fn is_wide(c: u32, b: u32) -> bool
+pub fn is_wide(c: Class, b: u32) -> bool
     ensures { result ≡ is_wide c b }
 {
     if by_low_bit(c) {
         return b % 2 == 1;
     }
-    if c == MOVE_REGISTER {
-        return b / 8 % 2 == 1;
+    match c {
+        Class::MoveRegister => b / 8 % 2 == 1,
+        Class::ExtendZero | Class::ExtendSign | Class::SetIf => false,
+        _ => true,
     }
-    !((c == EXTEND_ZERO) | (c == EXTEND_SIGN) | (c == SET_IF))
 }
 
-fn full_immediate(c: u32, reg: u32) -> bool
+fn full_immediate(c: Class, reg: u32) -> bool
     ensures { result ≡ full_immediate c reg }
 {
-    (c == ARITHMETIC_ACCUMULATOR)
-        | (c == TEST_ACCUMULATOR)
-        | (c == MOVE_REGISTER)
-        | (c == MOVE_GROUP)
-        | ((c == UNARY_GROUP) & (reg == 0))
+    match c {
+        Class::ArithmeticAccumulator
+        | Class::TestAccumulator
+        | Class::MoveRegister
+        | Class::MoveGroup => true,
+        Class::UnaryGroup => reg == 0,
+        _ => false,
+    }
 }
 
 fn long_opcode(b: u32) -> bool
@@ -307,19 +387,22 @@ fn long_opcode(b: u32) -> bool
     (b == 0x81) | (b == 0x68) | (b == 0x69) | (b == 0xe9) | (b == 0xe8) | (0x180 <= b)
 }
 
-fn has_immediate(c: u32) -> bool
+fn has_immediate(c: Class) -> bool
     ensures { result ≡ has_immediate c }
 {
-    (c == ARITHMETIC_GROUP)
-        | (c == PUSH_IMMEDIATE)
-        | (c == SHIFT_IMMEDIATE)
-        | (c == MULTIPLY_IMMEDIATE)
-        | (c == JUMP_IF)
-        | (c == JUMP_IF_NEAR)
-        | (c == JUMP_BY)
-        | (c == CALL_BY)
-        | (c == LOOP_BY)
-        | (c == INTERRUPT)
+    matches!(
+        c,
+        Class::ArithmeticGroup
+            | Class::PushImmediate
+            | Class::ShiftImmediate
+            | Class::MultiplyImmediate
+            | Class::JumpIf
+            | Class::JumpIfNear
+            | Class::JumpBy
+            | Class::CallBy
+            | Class::LoopBy
+            | Class::Interrupt
+    )
 }
 
 fn four_or_one(four: bool) -> u32
@@ -328,7 +411,7 @@ fn four_or_one(four: bool) -> u32
     if four { 4 } else { 1 }
 }
 
-pub fn immediate_bytes(c: u32, b: u32, reg: u32) -> u32
+pub fn immediate_bytes(c: Class, b: u32, reg: u32) -> u32
     ensures { result ≡ immediate_bytes c b reg }
 {
     if full_immediate(c, reg) {
@@ -337,193 +420,144 @@ pub fn immediate_bytes(c: u32, b: u32, reg: u32) -> u32
     if has_immediate(c) {
         return four_or_one(long_opcode(b));
     }
-    if c == RETURN_POPPING {
-        return 2;
+    match c {
+        Class::ReturnPopping => 2,
+        _ => 0,
     }
-    0
 }
 
-pub fn immediate_of(c: u32, x: u32) -> u32
+pub fn immediate_of(c: Class, x: u32) -> u32
     ensures { result ≡ immediate_of c x }
 {
-    if c == BREAKPOINT {
-        return 3;
+    match c {
+        Class::Breakpoint => 3,
+        Class::ShiftOne => 1,
+        _ => x,
     }
-    if c == SHIFT_ONE {
-        return 1;
-    }
-    x
 }
 
-pub fn implied_register(c: u32, b: u32) -> u32
+pub fn implied_register(c: Class, b: u32) -> u32
     ensures { result ≡ implied_register c b }
 {
-    if (c == MOVE_REGISTER)
-        | (c == EXCHANGE_ACCUMULATOR)
-        | (c == INCREMENT_REGISTER)
-        | (c == DECREMENT_REGISTER)
-        | (c == PUSH_REGISTER)
-        | (c == POP_REGISTER)
-    {
-        return b % 8;
+    match c {
+        Class::MoveRegister
+        | Class::ExchangeAccumulator
+        | Class::IncrementRegister
+        | Class::DecrementRegister
+        | Class::PushRegister
+        | Class::PopRegister => b % 8,
+        _ => 0,
     }
-    0
 }
 
-fn combination(c: u32, b: u32, reg: u32) -> u32
+fn combination(c: Class, b: u32, reg: u32) -> u32
     ensures { result ≡ combination c b reg }
 {
-    if (ARITHMETIC_TO <= c) & (c <= ARITHMETIC_ACCUMULATOR) {
-        return b / 8 % 8;
+    match c {
+        Class::ArithmeticTo | Class::ArithmeticFrom | Class::ArithmeticAccumulator => b / 8 % 8,
+        Class::ArithmeticGroup => reg,
+        Class::TestTo | Class::TestAccumulator | Class::UnaryGroup => 8,
+        _ => 9,
     }
-    if c == ARITHMETIC_GROUP {
-        return reg;
-    }
-    if (TEST_TO <= c) & (c <= UNARY_GROUP) {
-        return 8;
-    }
-    9
 }
 
-fn single(c: u32, reg: u32) -> u32
+fn single(c: Class, reg: u32) -> u32
     ensures { result ≡ single c reg }
 {
-    if c == INCREMENT_REGISTER {
-        return 0;
+    match c {
+        Class::IncrementRegister => 0,
+        Class::DecrementRegister => 1,
+        _ => reg,
     }
-    if c == DECREMENT_REGISTER {
-        return 1;
-    }
-    reg
 }
 
-fn is_to(c: u32) -> bool
+fn is_to(c: Class) -> bool
     ensures { result ≡ is_to c }
 {
-    (c == ARITHMETIC_TO) | (c == TEST_TO) | (c == MOVE_TO) | (c == MOVE_TO_OFFSET)
+    matches!(
+        c,
+        Class::ArithmeticTo | Class::TestTo | Class::MoveTo | Class::MoveToOffset
+    )
 }
 
-fn is_from(c: u32) -> bool
+fn is_from(c: Class) -> bool
     ensures { result ≡ is_from c }
 {
-    (c == ARITHMETIC_FROM) | (c == MOVE_FROM) | (c == MOVE_FROM_OFFSET)
+    matches!(
+        c,
+        Class::ArithmeticFrom | Class::MoveFrom | Class::MoveFromOffset
+    )
 }
 
-fn is_combined(c: u32, reg: u32) -> bool
+fn is_immediate(c: Class, reg: u32) -> bool
+    ensures { result ≡ is_immediate c reg }
+{
+    match c {
+        Class::ArithmeticGroup => true,
+        _ => full_immediate(c, reg),
+    }
+}
+
+fn is_combined(c: Class, reg: u32) -> bool
     ensures { result ≡ is_combined c reg }
 {
-    is_to(c) | is_from(c) | (c == ARITHMETIC_GROUP) | full_immediate(c, reg)
+    is_to(c) | is_from(c) | is_immediate(c, reg)
 }
 
-fn is_single(c: u32, reg: u32) -> bool
+fn is_single(c: Class, reg: u32) -> bool
     ensures { result ≡ is_single c reg }
 {
-    ((c == UNARY_GROUP) & (reg < 4))
-        | (c == INCREMENT_REGISTER)
-        | (c == DECREMENT_REGISTER)
-        | (((c == BYTE_GROUP) | (c == DWORD_GROUP)) & (reg < 2))
+    match c {
+        Class::UnaryGroup => reg < 4,
+        Class::IncrementRegister | Class::DecrementRegister => true,
+        Class::ByteGroup | Class::DwordGroup => reg < 2,
+        _ => false,
+    }
 }
 
 fn group_family(reg: u32) -> Family
     ensures { result ≡ group_family reg }
 {
-    if reg == 2 {
-        return Family::CallTo;
+    match reg {
+        2 => Family::CallTo,
+        4 => Family::JumpTo,
+        _ => Family::Push,
     }
-    if reg == 4 {
-        return Family::JumpTo;
-    }
-    Family::Push
 }
 
-fn other_family(c: u32) -> Family
-    ensures { result ≡ other_family c }
+// Of a class that is neither combined nor single.
+fn own_family(c: Class, reg: u32) -> Family
+    ensures { result ≡ own_family c reg }
 {
-    if c == LOOP_BY {
-        return Family::Loop;
+    match c {
+        Class::DwordGroup => group_family(reg),
+        Class::UnaryGroup => Family::Accumulate,
+        Class::ShiftImmediate | Class::ShiftOne => Family::ShiftBy,
+        Class::ShiftCl => Family::ShiftByCl,
+        Class::MultiplyImmediate => Family::MultiplyBy,
+        Class::MultiplyRegister => Family::MultiplyInto,
+        Class::ExtendZero | Class::ExtendSign => Family::Extend,
+        Class::LoadAddress => Family::AddressOf,
+        Class::Exchange | Class::ExchangeAccumulator => Family::Swap,
+        Class::PushRegister => Family::Push,
+        Class::PushImmediate => Family::PushNumber,
+        Class::PopRegister | Class::PopGroup => Family::Pop,
+        Class::SetIf => Family::SetOn,
+        Class::JumpIf | Class::JumpIfNear => Family::JumpOn,
+        Class::JumpBy => Family::Jump,
+        Class::CallBy => Family::Call,
+        Class::ReturnPlain | Class::ReturnPopping => Family::Return,
+        Class::LoopBy => Family::Loop,
+        Class::FlagOperation => Family::Flag,
+        Class::FlagTransfer => Family::Transfer,
+        Class::Widen => Family::Convert,
+        Class::Breakpoint | Class::Interrupt => Family::Trap,
+        _ => Family::Halt,
     }
-    if c == FLAG_OPERATION {
-        return Family::Flag;
-    }
-    if c == FLAG_TRANSFER {
-        return Family::Transfer;
-    }
-    if c == WIDEN {
-        return Family::Convert;
-    }
-    if (c == BREAKPOINT) | (c == INTERRUPT) {
-        return Family::Trap;
-    }
-    Family::Halt
 }
 
-fn flow_family(c: u32) -> Family
-    ensures { result ≡ flow_family c }
-{
-    if c == SET_IF {
-        return Family::SetOn;
-    }
-    if (c == JUMP_IF) | (c == JUMP_IF_NEAR) {
-        return Family::JumpOn;
-    }
-    if c == JUMP_BY {
-        return Family::Jump;
-    }
-    if c == CALL_BY {
-        return Family::Call;
-    }
-    if (c == RETURN_PLAIN) | (c == RETURN_POPPING) {
-        return Family::Return;
-    }
-    other_family(c)
-}
-
-fn move_family(c: u32) -> Family
-    ensures { result ≡ move_family c }
-{
-    if (c == EXTEND_ZERO) | (c == EXTEND_SIGN) {
-        return Family::Extend;
-    }
-    if c == LOAD_ADDRESS {
-        return Family::AddressOf;
-    }
-    if (c == EXCHANGE) | (c == EXCHANGE_ACCUMULATOR) {
-        return Family::Swap;
-    }
-    if c == PUSH_REGISTER {
-        return Family::Push;
-    }
-    if c == PUSH_IMMEDIATE {
-        return Family::PushNumber;
-    }
-    if (c == POP_REGISTER) | (c == POP_GROUP) {
-        return Family::Pop;
-    }
-    flow_family(c)
-}
-
-fn arithmetic_family(c: u32) -> Family
-    ensures { result ≡ arithmetic_family c }
-{
-    if c == UNARY_GROUP {
-        return Family::Accumulate;
-    }
-    if (c == SHIFT_IMMEDIATE) | (c == SHIFT_ONE) {
-        return Family::ShiftBy;
-    }
-    if c == SHIFT_CL {
-        return Family::ShiftByCl;
-    }
-    if c == MULTIPLY_IMMEDIATE {
-        return Family::MultiplyBy;
-    }
-    if c == MULTIPLY_REGISTER {
-        return Family::MultiplyInto;
-    }
-    move_family(c)
-}
-
-pub fn family_of(c: u32, reg: u32) -> Family
+#[tactic(auto, unfolding(crate::specs::Attributes::family_of))]
+pub fn family_of(c: Class, reg: u32) -> Family
     ensures { result ≡ family_of c reg }
 {
     if is_to(c) {
@@ -532,19 +566,17 @@ pub fn family_of(c: u32, reg: u32) -> Family
     if is_from(c) {
         return Family::CombineFrom;
     }
-    if is_combined(c, reg) {
+    if is_immediate(c, reg) {
         return Family::CombineImmediate;
     }
     if is_single(c, reg) {
         return Family::Unary;
     }
-    if c == DWORD_GROUP {
-        return group_family(reg);
-    }
-    arithmetic_family(c)
+    own_family(c, reg)
 }
 
-pub fn operation_of(c: u32, b: u32, reg: u32) -> u32
+#[tactic(auto, unfolding(crate::specs::Attributes::operation_of))]
+pub fn operation_of(c: Class, b: u32, reg: u32) -> u32
     ensures { result ≡ operation_of c b reg }
 {
     if is_combined(c, reg) {
@@ -553,14 +585,10 @@ pub fn operation_of(c: u32, b: u32, reg: u32) -> u32
     if is_single(c, reg) {
         return single(c, reg);
     }
-    if (c == UNARY_GROUP) | is_shift(c) {
-        return reg;
+    match c {
+        Class::UnaryGroup | Class::ShiftImmediate | Class::ShiftOne | Class::ShiftCl => reg,
+        Class::ExtendSign => 1,
+        Class::ExtendZero => 0,
+        _ => b % 16,
     }
-    if c == EXTEND_SIGN {
-        return 1;
-    }
-    if c == EXTEND_ZERO {
-        return 0;
-    }
-    b % 16
 }

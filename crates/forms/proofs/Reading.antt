@@ -11,13 +11,15 @@ use lib.Dec.{ltb, leb, eqb}
 use Rattle.alu.specs.declared.Status.{Status}
 use Rattle.machine.specs.Record.{Mem, at, wrap, read_at}
 use Rattle.machine.specs.Paging.{dword_at}
+use Rattle.encoding.specs.declared.Class.{Class}
+use Rattle.encoding.specs.declared.Class.TheVariants.{ArithmeticTo, ArithmeticFrom, TestTo, ArithmeticAccumulator, ArithmeticGroup, TestAccumulator, MoveRegister, LoadAddress, IncrementRegister, DecrementRegister, PushRegister, PopRegister, JumpIf, ReturnPlain}
 use Rattle.encoding.specs.Encodings.{class_of}
 use Rattle.operands.specs.Operands.{address}
 use Rattle.decode.specs.Decode.{in_memory, displacement_bytes}
 use Rattle.outcome.specs.Outcome.{file}
 use Rattle.fetch.specs.Fetch.{signed}
 use Rattle.shortcut.specs.Bytes.{displacement_at, operand_bytes}
-use Rattle.shortcut.specs.Forms.{operation_of, spot_of, up_to, left_fast, to_fast, from_fast, number_fast, address_fast, number_at, places_fast, times_fast, double_fast, register_fast, load_fast, accumulator_fast, count_fast}
+use Rattle.shortcut.specs.Forms.{combines_to, combines_from, operation_of, spot_of, up_to, left_fast, to_fast, from_fast, number_fast, address_fast, number_at, places_fast, times_fast, double_fast, register_fast, load_fast, accumulator_fast, count_fast}
 use Rattle.shortcut.proofs.Small.{and_left, and_right, or_left, or_right}
 use Rattle.shortcut.proofs.Spots.{form_based, spot_memory}
 use Rattle.shortcut.proofs.Taken.{taken_to, taken_from, taken_number, taken_address, taken_places, taken_times, taken_double, taken_push_number, taken_near, taken_far, taken_call, taken_load, taken_accumulator, taken_test, taken_inc, taken_dec, taken_push, taken_pop, taken_return, taken_jump}
@@ -73,14 +75,13 @@ near m i md k n d h s g en = ((λ e z. (spot e z).0), (spot [] refl).1.0)
 
 -- ---- two operands with ModRM
 
-cond_lt : (b : Bool) (n : ℕ) {x y : ℕ} → x < n → y < n → cond b x y < n
-cond_lt true n h k = h
-cond_lt false n h k = k
+operation_few : (c : Class) (b : ℕ) → operation_of c b < 10
+operation_few ArithmeticTo b = omega arith
+operation_few ArithmeticFrom b = omega arith
+operation_few TestTo b = omega arith
+operation_few _ b = omega arith
 
-operation_few : (c b : ℕ) → operation_of c b < 10
-operation_few c b = cond_lt (leb c 5) 10 (omega arith) (cond_lt (eqb c 8) 10 (omega arith) (omega arith))
-
-pub under_ten : (c op b : ℕ) → op ≡ operation_of c b → op < 10
+pub under_ten : (c : Class) (op b : ℕ) → op ≡ operation_of c b → op < 10
 under_ten c op b h = rw h (operation_few c b)
 
 module _ (m : Mem) (i b md : ℕ) where
@@ -126,11 +127,11 @@ module _ (m : Mem) (i b md : ℕ) where
   abbrev Spotted : ℕ → ℕ → Type 0
   Spotted u n = ((e : List ℕ) → reg e 8 ≡ 0 → wrap (reg e (md % 8) + n) ≡ spot_of m e i md) × (u ≡ up_to m i md)
 
-  module _ (eb : b ≡ at m i) (em : md ≡ at m (i + 1)) (c op : ℕ) (ec : c ≡ class_of b) (eo : op ≡ operation_of c b) where
+  module _ (eb : b ≡ at m i) (em : md ≡ at m (i + 1)) (c : Class) (op : ℕ) (ec : c ≡ class_of b) (eo : op ≡ operation_of c b) where
     few : op < 10
     few = under_ten c op b eo
 
-    module _ (h : (eqb c 4 || eqb c 8 || eqb c 11) ≡ true) where
+    module _ (h : combines_to c ≡ true) where
       pub read_to : 192 ≤ md → b % 2 ≡ 1 → ReadOk m i (form op 2 (md % 8) (md / 8 % 8) 0)
       read_to d o = (
         (λ e s eip _ _. taken_to m e s eip i b md c eb em ec _ h op eo (to_direct op e s eip few d o)),
@@ -149,7 +150,7 @@ module _ (m : Mem) (i b md : ℕ) where
         small _ _ _ _ _ (omega arith) (omega (arith, hu)) (omega arith) (omega arith) hn,
       )
 
-    module _ (h : (eqb c 5 || eqb c 12) ≡ true) where
+    module _ (h : combines_from c ≡ true) where
       pub read_from : 192 ≤ md → b % 2 ≡ 1 → ReadOk m i (form op 2 (md / 8 % 8) (md % 8) 0)
       read_from d o = (
         (λ e s eip _ _. taken_from m e s eip i b md c eb em ec _ h op eo (from_direct op e s eip few d o)),
@@ -176,7 +177,7 @@ module _ (m : Mem) (i b md : ℕ) where
         )
 
   module _ (eb : b ≡ at m i) (em : md ≡ at m (i + 1)) where
-    pub read_address : (u n : ℕ) → class_of b ≡ 19 → md < 192 → u ≤ 6 → n < 4294967296 → Spotted u n → ReadOk m i (form 71 u (md / 8 % 8) (md % 8) n)
+    pub read_address : (u n : ℕ) → class_of b ≡ LoadAddress → md < 192 → u ≤ 6 → n < 4294967296 → Spotted u n → ReadOk m i (form 71 u (md / 8 % 8) (md % 8) n)
     read_address u n h d hu hn q = (
       (λ e s eip _ z₈. taken_address m e s eip i b md (class_of b) eb em refl _ h d (of_address 0 e s eip u n (q.0 e z₈) q.1 d)),
       small _ _ _ _ _ (omega arith) (omega (arith, hu)) (omega arith) (omega arith) hn,
@@ -191,17 +192,17 @@ module _ (m : Mem) (i b md : ℕ) where
         let k : op ≡ 9 → ⊥ = λ z. omega (arith, few, z) in
         kind_number op (2 + cond long 4 1) (md % 8) 0 n e s eip (omega (arith, few)) ∙ rw (o, le-leb 192 md d, ne_eqb op 9 k, en) refl
 
-    read_number : (long : Bool) (n : ℕ) → b < 256 → class_of b ≡ 7 → 192 ≤ md → b % 2 ≡ 1 → long ≡ (eqb (b % 2) 1 && not (eqb b 0x83)) → n < 4294967296 → n ≡ number_at long m (i + 2)
+    read_number : (long : Bool) (n : ℕ) → b < 256 → class_of b ≡ ArithmeticGroup → 192 ≤ md → b % 2 ≡ 1 → long ≡ (eqb (b % 2) 1 && not (eqb b 0x83)) → n < 4294967296 → n ≡ number_at long m (i + 2)
         → 2 + cond long 4 1 < 16 → ReadOk m i (form (16 + md / 8 % 8) (2 + cond long 4 1) (md % 8) 0 n)
     read_number long n l h d o el hn en hl = (
       (λ e s eip _ _. taken_number m e s eip i b md (class_of b) eb em refl _ l (rw h refl) (md / 8 % 8) long (rw h refl) (rw h refl) el (number_direct long n (md / 8 % 8) e s eip (omega arith) d o en)),
       small _ _ _ _ _ (omega arith) hl (omega arith) (omega arith) hn,
     )
 
-    pub read_byte : (n : ℕ) → b < 256 → class_of b ≡ 7 → 192 ≤ md → b ≡ 0x83 → n < 4294967296 → n ≡ signed (at m (i + 2)) → ReadOk m i (form (16 + md / 8 % 8) 3 (md % 8) 0 n)
+    pub read_byte : (n : ℕ) → b < 256 → class_of b ≡ ArithmeticGroup → 192 ≤ md → b ≡ 0x83 → n < 4294967296 → n ≡ signed (at m (i + 2)) → ReadOk m i (form (16 + md / 8 % 8) 3 (md % 8) 0 n)
     read_byte n l h d k hn en = read_number false n l h d (rw k refl) (rw k refl) hn en (omega arith)
 
-    pub read_dword : (n : ℕ) → b < 256 → class_of b ≡ 7 → 192 ≤ md → b % 2 ≡ 1 → (b ≡ 0x83 → ⊥) → n < 4294967296 → n ≡ dword_at m (i + 2) → ReadOk m i (form (16 + md / 8 % 8) 6 (md % 8) 0 n)
+    pub read_dword : (n : ℕ) → b < 256 → class_of b ≡ ArithmeticGroup → 192 ≤ md → b % 2 ≡ 1 → (b ≡ 0x83 → ⊥) → n < 4294967296 → n ≡ dword_at m (i + 2) → ReadOk m i (form (16 + md / 8 % 8) 6 (md % 8) 0 n)
     read_dword n l h d o k hn en = read_number true n l h d o (rw (o, ne_eqb b 0x83 k) refl) hn en (omega arith)
 
     -- ---- shifts and products
@@ -315,11 +316,10 @@ module _ (m : Mem) (i b md : ℕ) where
 
     -- ---- by class
 
-    -- the code's test of a width, where the class is one that the test is for
-    odd : (x : Bool) (n : ℕ) → x ≡ true → (x && eqb (n % 2) 0) ≡ false → n % 2 ≡ 1
-    odd x n t h = let z : eqb (n % 2) 0 ≡ false = rw t at h in let k : n % 2 ≡ 0 → ⊥ = eqb-false (n % 2) 0 z in omega (arith, k)
+    odd : (n : ℕ) → (n % 2 ≡ 0 → ⊥) → n % 2 ≡ 1
+    odd n h = omega (arith, h)
 
-    module _ (f : Form) (c : ℕ) (ec : c ≡ class_of b) where
+    module _ (f : Form) (c : Class) (ec : c ≡ class_of b) where
       module _ (n : ℕ) (hn : n < 4294967296) where
         accumulator_direct : (op : ℕ) (e : List ℕ) (s : Status) (eip : ℕ) → op < 9 → b % 2 ≡ 1 → n ≡ dword_at m (i + 1) → meant (form (16 + op) 5 0 0 n) e eip s ≡ accumulator_fast m e eip i op b
         unfolding register_fast read_at
@@ -327,15 +327,15 @@ module _ (m : Mem) (i b md : ℕ) where
             let k : op ≡ 9 → ⊥ = λ z. omega (arith, few, z) in
             kind_number op 5 0 0 n e s eip (omega (arith, few)) ∙ rw (o, ne_eqb op 9 k, en) refl
 
-        pub read_accumulator : c ≡ 6 → ((eqb c 6 || eqb c 9) && eqb (b % 2) 0) ≡ false → n ≡ dword_at m (i + 1) → f ≡ form (16 + b / 8 % 8) 5 0 0 n → ReadOk m i f
-        read_accumulator h t en ef = let o = odd (eqb c 6 || eqb c 9) b (rw h refl) t in
+        pub read_accumulator : c ≡ ArithmeticAccumulator → (b % 2 ≡ 0 → ⊥) → n ≡ dword_at m (i + 1) → f ≡ form (16 + b / 8 % 8) 5 0 0 n → ReadOk m i f
+        read_accumulator h t en ef = let o = odd b t in
             rw ef (
               (λ e s eip _ _. taken_accumulator m e s eip i b md c eb em ec _ h (accumulator_direct (b / 8 % 8) e s eip (omega arith) o en)),
               small _ _ _ _ _ (omega arith) (omega arith) (omega arith) (omega arith) hn,
             )
 
-        pub read_test_number : c ≡ 9 → ((eqb c 6 || eqb c 9) && eqb (b % 2) 0) ≡ false → n ≡ dword_at m (i + 1) → f ≡ form 24 5 0 0 n → ReadOk m i f
-        read_test_number h t en ef = let o = odd (eqb c 6 || eqb c 9) b (rw h refl) t in
+        pub read_test_number : c ≡ TestAccumulator → (b % 2 ≡ 0 → ⊥) → n ≡ dword_at m (i + 1) → f ≡ form 24 5 0 0 n → ReadOk m i f
+        read_test_number h t en ef = let o = odd b t in
             rw ef (
               (λ e s eip _ _. taken_test m e s eip i b md c eb em ec _ h (accumulator_direct 8 e s eip (omega arith) o en)),
               small _ _ _ _ _ (omega arith) (omega arith) (omega arith) (omega arith) hn,
@@ -345,14 +345,14 @@ module _ (m : Mem) (i b md : ℕ) where
         unfolding meant register_fast
         load_direct e s eip o en = rw (o, en) refl
 
-        pub read_load_number : c ≡ 15 → (eqb c 15 && eqb (b / 8 % 2) 0) ≡ false → n ≡ dword_at m (i + 1) → f ≡ form 25 5 (b % 8) 0 n → ReadOk m i f
-        read_load_number h t en ef = let o = odd (eqb c 15) (b / 8) (rw h refl) t in
+        pub read_load_number : c ≡ MoveRegister → (b / 8 % 2 ≡ 0 → ⊥) → n ≡ dword_at m (i + 1) → f ≡ form 25 5 (b % 8) 0 n → ReadOk m i f
+        read_load_number h t en ef = let o = odd (b / 8) t in
             rw ef (
               (λ e s eip _ _. taken_load m e s eip i b md c eb em ec _ h (load_direct e s eip o en)),
               small _ _ _ _ _ (omega arith) (omega arith) (omega arith) (omega arith) hn,
             )
 
-        pub read_jump : c ≡ 36 → b < 256 → n ≡ signed md → f ≡ form (48 + b % 16) 2 0 0 n → ReadOk m i f
+        pub read_jump : c ≡ JumpIf → b < 256 → n ≡ signed md → f ≡ form (48 + b % 16) 2 0 0 n → ReadOk m i f
         unfolding meant
         read_jump h l en ef =
             let k : (48 + b % 16) / 16 ≡ 3 = omega arith in
@@ -362,22 +362,22 @@ module _ (m : Mem) (i b md : ℕ) where
               small _ _ _ _ _ (omega arith) (omega arith) (omega arith) (omega arith) hn,
             )
 
-      pub read_inc : c ≡ 22 → f ≡ form 26 1 (b % 8) 0 0 → ReadOk m i f
+      pub read_inc : c ≡ IncrementRegister → f ≡ form 26 1 (b % 8) 0 0 → ReadOk m i f
       unfolding meant count_fast
       read_inc h ef = rw ef ((λ e s eip _ _. taken_inc m e s eip i b md c eb em ec _ h refl), small _ _ _ _ _ (omega arith) (omega arith) (omega arith) (omega arith) (omega arith))
 
-      pub read_dec : c ≡ 23 → f ≡ form 27 1 (b % 8) 0 0 → ReadOk m i f
+      pub read_dec : c ≡ DecrementRegister → f ≡ form 27 1 (b % 8) 0 0 → ReadOk m i f
       unfolding meant count_fast
       read_dec h ef = rw ef ((λ e s eip _ _. taken_dec m e s eip i b md c eb em ec _ h refl), small _ _ _ _ _ (omega arith) (omega arith) (omega arith) (omega arith) (omega arith))
 
-      pub read_push : c ≡ 26 → f ≡ form 65 1 0 (b % 8) 0 → ReadOk m i f
+      pub read_push : c ≡ PushRegister → f ≡ form 65 1 0 (b % 8) 0 → ReadOk m i f
       unfolding meant
       read_push h ef = rw ef ((λ e s eip l _. taken_push m e s eip i b md c eb em ec _ _ _ h l refl refl refl), small _ _ _ _ _ (omega arith) (omega arith) (omega arith) (omega arith) (omega arith))
 
-      pub read_pop : c ≡ 28 → f ≡ form 67 1 (b % 8) 0 0 → ReadOk m i f
+      pub read_pop : c ≡ PopRegister → f ≡ form 67 1 (b % 8) 0 0 → ReadOk m i f
       unfolding meant
       read_pop h ef = rw ef ((λ e s eip _ _. taken_pop m e s eip i b md c eb em ec _ _ h refl refl), small _ _ _ _ _ (omega arith) (omega arith) (omega arith) (omega arith) (omega arith))
 
-      pub read_return : c ≡ 41 → f ≡ form 70 1 0 0 0 → ReadOk m i f
+      pub read_return : c ≡ ReturnPlain → f ≡ form 70 1 0 0 0 → ReadOk m i f
       unfolding meant
       read_return h ef = rw ef ((λ e s eip _ _. taken_return m e s eip i b md c eb em ec _ _ h refl refl), small _ _ _ _ _ (omega arith) (omega arith) (omega arith) (omega arith) (omega arith))

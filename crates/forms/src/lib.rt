@@ -1,11 +1,14 @@
 // The common encodings in a form that their bytes alone decide, so that they are read once and kept. Whatever is not here is no form.
 #![tactic(auto)]
 
-ghost use Rattle.std.specs.Prelude.{◌≡◌, ◌≢◌, true, ◌||◌, List, ℕ, ◌+◌, ◌/◌, ◌%◌, ◌<◌, ◌≤◌, length, eqb, IfSome, Some};
+ghost use Rattle.std.specs.Prelude.{◌≡◌, ◌≢◌, true, List, ℕ, ◌+◌, ◌/◌, ◌%◌, ◌<◌, ◌≤◌, length, IfSome, Some};
 ghost use Rattle.machine.specs.Record.{at, wrap};
+ghost use Rattle.encoding.specs.declared.Class.TheVariants.{ArithmeticGroup, LoadAddress};
 ghost use Rattle.encoding.specs.Encodings.{Classed, class_of};
-ghost use Rattle.shortcut.specs.Forms.{operation_of, spot_of, up_to};
+ghost use Rattle.shortcut.specs.Forms.{combines_to, combines_from, operation_of, spot_of, up_to};
 ghost use Rattle.forms.specs.Forms.{reg, ReadOk};
+
+use encoding::Class;
 
 // The kind says what it is (specs/Forms, `meant`); the instruction has `length` bytes; a and b are registers; then an immediate, a displacement or
 // the distance of a jump.
@@ -52,8 +55,8 @@ fn beside(mem: &[u8], i: usize, m: u32) -> Option<Near>
 }
 
 // The operand by a register.
-fn to_operand(mem: &[u8], i: usize, c: u32, op: u32, b: u32, m: u32) -> Option<Form>
-    requires { (i + 16 ≤ length mem.now) × ((b ≡ at mem.now i) × ((m ≡ at mem.now (i + 1)) × ((m < 256) × ((c ≡ class_of b) × ((op ≡ operation_of c b) × ((eqb c 4 || eqb c 8 || eqb c 11) ≡ true)))))) }
+fn to_operand(mem: &[u8], i: usize, c: Class, op: u32, b: u32, m: u32) -> Option<Form>
+    requires { (i + 16 ≤ length mem.now) × ((b ≡ at mem.now i) × ((m ≡ at mem.now (i + 1)) × ((m < 256) × ((c ≡ class_of b) × ((op ≡ operation_of c b) × (combines_to c ≡ true)))))) }
     ensures { IfSome result (λ f. ReadOk mem.now i f) }
 {
     if 192 <= m {
@@ -91,8 +94,8 @@ fn to_operand(mem: &[u8], i: usize, c: u32, op: u32, b: u32, m: u32) -> Option<F
 }
 
 // A register by the operand.
-fn from_operand(mem: &[u8], i: usize, c: u32, op: u32, b: u32, m: u32) -> Option<Form>
-    requires { (i + 16 ≤ length mem.now) × ((b ≡ at mem.now i) × ((m ≡ at mem.now (i + 1)) × ((m < 256) × ((c ≡ class_of b) × ((op ≡ operation_of c b) × ((eqb c 5 || eqb c 12) ≡ true)))))) }
+fn from_operand(mem: &[u8], i: usize, c: Class, op: u32, b: u32, m: u32) -> Option<Form>
+    requires { (i + 16 ≤ length mem.now) × ((b ≡ at mem.now i) × ((m ≡ at mem.now (i + 1)) × ((m < 256) × ((c ≡ class_of b) × ((op ≡ operation_of c b) × (combines_from c ≡ true)))))) }
     ensures { IfSome result (λ f. ReadOk mem.now i f) }
 {
     let wide = b % 2 == 1;
@@ -141,7 +144,7 @@ fn from_operand(mem: &[u8], i: usize, c: u32, op: u32, b: u32, m: u32) -> Option
 
 // A register by an immediate, 81 and 83.
 fn by_number(mem: &[u8], i: usize, b: u32, m: u32) -> Option<Form>
-    requires { (i + 16 ≤ length mem.now) × ((b ≡ at mem.now i) × ((m ≡ at mem.now (i + 1)) × ((m < 256) × ((b < 256) × (class_of b ≡ 7))))) }
+    requires { (i + 16 ≤ length mem.now) × ((b ≡ at mem.now i) × ((m ≡ at mem.now (i + 1)) × ((m < 256) × ((b < 256) × (class_of b ≡ ArithmeticGroup))))) }
     ensures { IfSome result (λ f. ReadOk mem.now i f) }
 {
     if (m < 192) | (b % 2 == 0) {
@@ -167,7 +170,7 @@ fn by_number(mem: &[u8], i: usize, b: u32, m: u32) -> Option<Form>
 
 // LEA.
 fn address_of(mem: &[u8], i: usize, b: u32, m: u32) -> Option<Form>
-    requires { (i + 16 ≤ length mem.now) × ((b ≡ at mem.now i) × ((m ≡ at mem.now (i + 1)) × ((m < 256) × (class_of b ≡ 19)))) }
+    requires { (i + 16 ≤ length mem.now) × ((b ≡ at mem.now i) × ((m ≡ at mem.now (i + 1)) × ((m < 256) × (class_of b ≡ LoadAddress)))) }
     ensures { IfSome result (λ f. ReadOk mem.now i f) }
 {
     if 192 <= m {
@@ -263,26 +266,35 @@ fn by_opcode(mem: &[u8], i: usize, b: u32, m: u32) -> Option<Form>
 }
 
 // Opcodes without ModRM, by their class. Those of bytes are no forms.
-fn plain(mem: &[u8], i: usize, c: u32, b: u32, m: u32) -> Option<Form>
+fn plain(mem: &[u8], i: usize, c: Class, b: u32, m: u32) -> Option<Form>
     requires { (i + 16 ≤ length mem.now) × ((b ≡ at mem.now i) × ((m ≡ at mem.now (i + 1)) × ((m < 256) × ((b < 256) × (c ≡ class_of b))))) }
     ensures { IfSome result (λ f. ReadOk mem.now i f) }
 {
-    if ((c == 6) | (c == 9)) & (b % 2 == 0) {
-        return None;
-    }
-    if (c == 15) & (b / 8 % 2 == 0) {
-        return None;
-    }
     match c {
-        6 => with_number(16 + b / 8 % 8, 5, 0, 0, shortcut::bytes::dword(mem, i + 1)),
-        9 => with_number(24, 5, 0, 0, shortcut::bytes::dword(mem, i + 1)),
-        15 => with_number(25, 5, b % 8, 0, shortcut::bytes::dword(mem, i + 1)),
-        22 => with_number(26, 1, b % 8, 0, 0),
-        23 => with_number(27, 1, b % 8, 0, 0),
-        26 => with_number(65, 1, 0, b % 8, 0),
-        28 => with_number(67, 1, b % 8, 0, 0),
-        36 => with_number(48 + b % 16, 2, 0, 0, fetch::extend(m)),
-        41 => with_number(70, 1, 0, 0, 0),
+        Class::ArithmeticAccumulator => {
+            if b % 2 == 0 {
+                return None;
+            }
+            with_number(16 + b / 8 % 8, 5, 0, 0, shortcut::bytes::dword(mem, i + 1))
+        }
+        Class::TestAccumulator => {
+            if b % 2 == 0 {
+                return None;
+            }
+            with_number(24, 5, 0, 0, shortcut::bytes::dword(mem, i + 1))
+        }
+        Class::MoveRegister => {
+            if b / 8 % 2 == 0 {
+                return None;
+            }
+            with_number(25, 5, b % 8, 0, shortcut::bytes::dword(mem, i + 1))
+        }
+        Class::IncrementRegister => with_number(26, 1, b % 8, 0, 0),
+        Class::DecrementRegister => with_number(27, 1, b % 8, 0, 0),
+        Class::PushRegister => with_number(65, 1, 0, b % 8, 0),
+        Class::PopRegister => with_number(67, 1, b % 8, 0, 0),
+        Class::JumpIf => with_number(48 + b % 16, 2, 0, 0, fetch::extend(m)),
+        Class::ReturnPlain => with_number(70, 1, 0, 0, 0),
         _ => by_opcode(mem, i, b, m),
     }
 }
@@ -295,17 +307,15 @@ pub fn read(mem: &[u8], t: &[u8; 512], i: usize) -> Option<Form>
     let b = shortcut::bytes::byte(mem, i);
     let m = shortcut::bytes::byte(mem, i + 1);
     let c = encoding::class_in(t, b);
-    if (c == 4) | (c == 8) | (c == 11) {
-        return to_operand(mem, i, c, shortcut::operation(c, b), b, m);
+    match c {
+        Class::ArithmeticTo | Class::TestTo | Class::MoveTo => {
+            to_operand(mem, i, c, shortcut::operation(c, b), b, m)
+        }
+        Class::ArithmeticFrom | Class::MoveFrom => {
+            from_operand(mem, i, c, shortcut::operation(c, b), b, m)
+        }
+        Class::ArithmeticGroup => by_number(mem, i, b, m),
+        Class::LoadAddress => address_of(mem, i, b, m),
+        _ => plain(mem, i, c, b, m),
     }
-    if (c == 5) | (c == 12) {
-        return from_operand(mem, i, c, shortcut::operation(c, b), b, m);
-    }
-    if c == 7 {
-        return by_number(mem, i, b, m);
-    }
-    if c == 19 {
-        return address_of(mem, i, b, m);
-    }
-    plain(mem, i, c, b, m)
 }

@@ -4,7 +4,7 @@ use mathlib.Core.Path.{refl}
 use lib.Count.{ones}
 use Rattle.alu.specs.Arithmetic.{parity, sum_status, single, operate, operate_one, operation}
 use Rattle.encoding.specs.Encodings.{class_of}
-use Rattle.encoding.specs.Attributes.{family_of, operation_of, arithmetic_family}
+use Rattle.encoding.specs.Attributes.{family_of, operation_of}
 use Rattle.fetch.specs.Fetch.{number}
 use Rattle.decode.specs.Decode.{prefixed, opcode, after_modrm, judged, finish, with_modrm, classed, decode}
 use Rattle.machine.specs.Record.{read_at, write_at, flags_in, pack, sound_at}
@@ -22,7 +22,7 @@ use Rattle.leaks.specs.OtherView.{step_by, steps_by, run_by, open_view}
 use Rattle.leaks.specs.Claims.{Counted, Read}
 
 pub worked : Counted × Read
-unfolding parity ones sum_status single operate operate_one operation class_of family_of operation_of arithmetic_family
+unfolding parity ones sum_status single operate operate_one operation class_of family_of operation_of
     number prefixed opcode after_modrm judged finish with_modrm classed decode
     read_at write_at flags_in pack sound_at numbered entry_of within leaf under page_at ask rights reach translate view
     patch patches marks_of if_at marks stored touched written commit byte counted fetch access stores_of store plan_of settle checked onward

@@ -1,10 +1,13 @@
 -- Decoding where all the bytes are shown: one fetch after another, to the instruction.
 -- Assumes nothing.
-use Rattle.std.proofs.Common.{◌≡◌, ℕ, ◌+◌, ◌/◌, ◌%◌, ◌<◌, ◌≤◌, Bool, true, false, cond, ◌&&◌, eqb, leb, refl, arith, lt-ltb, ne_eqb}
+use Rattle.std.proofs.Common.{◌≡◌, ℕ, ◌+◌, ◌/◌, ◌%◌, ◌<◌, Bool, true, false, cond, ◌&&◌, eqb, leb, refl, arith, lt-ltb}
+use mathlib.Core.Bool.{false≢true}
 use Rattle.machine.specs.Record.{Mem, at}
 use Rattle.machine.specs.Paging.{View, dword_at}
 use Rattle.machine.specs.Act.{ok, byte, counted, fetch}
-use Rattle.encoding.specs.Encodings.{class_of, not_built, override, escape, undefined}
+use Rattle.encoding.specs.declared.Class.{Class}
+use Rattle.encoding.specs.declared.Class.TheVariants.{NotBuilt, Override, Escape, Undefined}
+use Rattle.encoding.specs.Encodings.{class_of, is_not_built, is_override, is_escape, is_undefined}
 use Rattle.encoding.specs.Attributes.{reg_field, has_modrm, has_offset, undefined_form, unbuilt_form, is_wide, immediate_bytes, immediate_of, implied_register, family_of, operation_of}
 use Rattle.fetch.specs.Fetch.{signed, fetch_signed, fetch_dword, number}
 use Rattle.fetch.specs.Read.{log_at}
@@ -12,6 +15,14 @@ use Rattle.fetch.proofs.Laws.{span_more}
 use Rattle.decode.specs.Decode.{prefixed, opcode, in_register, in_memory, displacement_bytes, scale_of, index_of, after_sib, after_modrm, judged, finish, with_modrm, classed, decode}
 use Rattle.shortcut.specs.Bytes.{Shows, displacement_at, is_bare, sib_at, sib_bytes, operand_at, operand_bytes}
 use Rattle.shortcut.specs.Forms.{up_to}
+
+-- a class that is an instruction's own
+abbrev pub is_own : Class → Bool
+is_own NotBuilt = false
+is_own Override = false
+is_own Escape = false
+is_own Undefined = false
+is_own _ = true
 
 module _ (v : View) (m : Mem) (eip i : ℕ) (sh : Shows v m eip i) where
   fetched : (n : ℕ) → n < 15 → fetch eip v (log_at eip n) ≡ ok (at m (i + n)) (log_at eip (n + 1))
@@ -88,24 +99,22 @@ module _ (v : View) (m : Mem) (eip i : ℕ) (sh : Shows v m eip i) where
   abbrev b₁ : ℕ
   b₁ = at m (i + 1)
 
-  -- a class that is an instruction's own
-  pub record Plain (c : ℕ) : Type 0 where
+  -- as the decoder tests it
+  pub record Plain (c : Class) : Type 0 where
     pub is_class : class_of o ≡ c
-    pub no_override : eqb c override ≡ false
-    pub no_escape : eqb c escape ≡ false
-    pub built : eqb c not_built ≡ false
-    pub defined : eqb c undefined ≡ false
+    pub no_override : is_override c ≡ false
+    pub no_escape : is_escape c ≡ false
+    pub built : is_not_built c ≡ false
+    pub defined : is_undefined c ≡ false
 
-  -- the classes that are not are below four
-  pub own : (c : ℕ) → class_of o ≡ c → 4 ≤ c → Plain c
-  own c h l =
-      let n0 : c ≡ not_built → ⊥ = λ z. omega arith in
-      let n1 : c ≡ override → ⊥ = λ z. omega arith in
-      let n2 : c ≡ escape → ⊥ = λ z. omega arith in
-      let n3 : c ≡ undefined → ⊥ = λ z. omega arith in
-      record { is_class = h; no_override = ne_eqb _ _ n1; no_escape = ne_eqb _ _ n2; built = ne_eqb _ _ n0; defined = ne_eqb _ _ n3 }
+  pub own : (c : Class) → class_of o ≡ c → is_own c ≡ true → Plain c
+  own NotBuilt h l = absurd (false≢true l)
+  own Override h l = absurd (false≢true l)
+  own Escape h l = absurd (false≢true l)
+  own Undefined h l = absurd (false≢true l)
+  own _ h l = record { is_class = h; no_override = refl; no_escape = refl; built = refl; defined = refl }
 
-  pub with_modrm_lem : (c x n : ℕ) → Plain c → has_modrm c ≡ true → undefined_form c b₁ ≡ false → unbuilt_form c b₁ ≡ false
+  pub with_modrm_lem : (c : Class) (x n : ℕ) → Plain c → has_modrm c ≡ true → undefined_form c b₁ ≡ false → unbuilt_form c b₁ ≡ false
       → number eip (immediate_bytes c o (reg_field b₁)) v (log_at eip (up_to m i b₁)) ≡ ok x (log_at eip n)
       → decode eip v (log_at eip 0)
       ≡ ok (record { family = family_of c (reg_field b₁); operation = operation_of c o (reg_field b₁); wide = is_wide c o; register = reg_field b₁; operand = operand_at m (i + 2) b₁; immediate = immediate_of c x; length = n }) (log_at eip n)
@@ -113,7 +122,7 @@ module _ (v : View) (m : Mem) (eip i : ℕ) (sh : Shows v m eip i) where
   with_modrm_lem c x n p h u w e =
       rw (fetched_to 0 1 i (omega arith) refl (omega arith), p.is_class, p.no_override, p.is_class, p.no_escape, p.is_class, p.built, p.defined, h, fetched 1 (omega arith), u, w, at_operand b₁, e)
 
-  pub without_modrm : (c x n : ℕ) → Plain c → has_modrm c ≡ false → has_offset c ≡ false → number eip (immediate_bytes c o 0) v (log_at eip 1) ≡ ok x (log_at eip n)
+  pub without_modrm : (c : Class) (x n : ℕ) → Plain c → has_modrm c ≡ false → has_offset c ≡ false → number eip (immediate_bytes c o 0) v (log_at eip 1) ≡ ok x (log_at eip n)
       → decode eip v (log_at eip 0)
       ≡ ok (record { family = family_of c 0; operation = operation_of c o 0; wide = is_wide c o; register = 0; operand = in_register (implied_register c o); immediate = immediate_of c x; length = n }) (log_at eip n)
   unfolding decode opcode prefixed classed finish

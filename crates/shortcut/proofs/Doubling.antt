@@ -6,10 +6,11 @@ use Rattle.alu.specs.declared.Status.{Status}
 use Rattle.machine.specs.declared.Core.{Core}
 use Rattle.machine.specs.Record.{Mem, at, write_at, read_at}
 use Rattle.machine.specs.Paging.{View}
+use Rattle.encoding.specs.declared.Class.TheVariants.{UnaryGroup}
 use Rattle.encoding.specs.declared.Family.TheVariants.{Accumulate}
 use Rattle.encoding.specs.declared.Instruction.{Instruction}
 use Rattle.encoding.specs.Encodings.{class_of}
-use Rattle.encoding.specs.Attributes.{family_of, operation_of, arithmetic_family}
+use Rattle.encoding.specs.Attributes.{family_of, operation_of}
 use Rattle.operands.specs.Operands.{operand_value, operand_want}
 use Rattle.arithmetic.specs.Arithmetic.{do_accumulate, do_multiply}
 use Rattle.execute.specs.Execute.{first, second, writes_operand, reads_operand, compute}
@@ -34,12 +35,12 @@ module _ (v : View) (m : Mem) (e : List ℕ) (s : Status) (eip i : ℕ) (int dir
   abbrev doubling : Instruction
   doubling = record { family = Accumulate; operation = 4; wide = true; register = 4; operand = operand_at m (i + 2) md; immediate = 0; length = 2 }
 
-  pub double_fits : class_of (at m i) ≡ 10 → is_odd (at m i) ≡ true → is_direct md ≡ true → md / 8 % 8 ≡ 4 → Shows v m eip i
+  pub double_fits : class_of (at m i) ≡ UnaryGroup → is_odd (at m i) ≡ true → is_direct md ≡ true → md / 8 % 8 ≡ 4 → Shows v m eip i
       → FitsTo v k (double_fast e eip md) (λ a. doubled_after (double_fast e eip md) k)
-  unfolding family_of operation_of arithmetic_family first second writes_operand reads_operand compute do_accumulate do_multiply operand_value operand_want write_at read_at double_fast want_first want_second doubled_after
+  unfolding family_of operation_of first second writes_operand reads_operand compute do_accumulate do_multiply operand_value operand_want write_at read_at double_fast want_first want_second doubled_after
   double_fits h odd d r sh = record {
     instr = doubling;
-    decodes = rw (r, odd, short d) at (with_modrm_lem v m eip i sh 10 0 (up_to m i md) (record { is_class = h; no_override = refl; no_escape = refl; built = refl; defined = refl }) refl refl (rw r) (rw r (number_none v m eip i sh (up_to m i md))));
+    decodes = rw (r, odd, short d) at (with_modrm_lem v m eip i sh UnaryGroup 0 (up_to m i md) (record { is_class = h; no_override = refl; no_escape = refl; built = refl; defined = refl }) refl refl (rw r) (rw r (number_none v m eip i sh (up_to m i md))));
     free = λ _ _. refl;
     firstly = rw direct;
     secondly = refl;

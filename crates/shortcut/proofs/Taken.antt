@@ -8,10 +8,12 @@ use Rattle.conditions.specs.Conditions.{holds}
 use Rattle.machine.specs.Record.{Mem, at, wrap, register, read_at}
 use Rattle.machine.specs.Paging.{View, dword_at}
 use Rattle.alu.specs.Arithmetic.{operate, operation, writes}
+use Rattle.encoding.specs.declared.Class.{Class}
+use Rattle.encoding.specs.declared.Class.TheVariants.{ArithmeticTo, ArithmeticFrom, ArithmeticAccumulator, ArithmeticGroup, TestTo, TestAccumulator, MoveTo, MoveFrom, MoveRegister, MoveGroup, LoadAddress, IncrementRegister, DecrementRegister, PushRegister, PushImmediate, PopRegister, ShiftImmediate, ShiftOne, ShiftCl, MultiplyImmediate, JumpIf, JumpBy, CallBy, ReturnPlain}
 use Rattle.encoding.specs.declared.Family.TheVariants.{CombineTo, CombineFrom, CombineImmediate, ShiftBy, ShiftByCl, JumpOn}
 use Rattle.encoding.specs.declared.Instruction.{Instruction}
 use Rattle.encoding.specs.Encodings.{class_of}
-use Rattle.encoding.specs.Attributes.{reg_field, has_modrm, undefined_form, unbuilt_form, is_wide, immediate_bytes, immediate_of, family_of, operation_of as operationIn, arithmetic_family, move_family, flow_family, long_opcode}
+use Rattle.encoding.specs.Attributes.{reg_field, has_modrm, undefined_form, unbuilt_form, is_wide, immediate_bytes, immediate_of, family_of, operation_of as operationIn, long_opcode}
 use Rattle.machine.specs.Act.{ok}
 use Rattle.fetch.specs.Fetch.{signed, number}
 use Rattle.fetch.specs.Read.{log_at}
@@ -21,11 +23,11 @@ use Rattle.arithmetic.specs.Arithmetic.{do_combine_to, do_combine_immediate, do_
 use Rattle.outcome.specs.declared.Fast.{Fast}
 use Rattle.shortcut.specs.Bytes.{Shows, operand_at}
 use Rattle.outcome.specs.Outcome.{file}
-use Rattle.shortcut.specs.Forms.{is_direct, is_odd, up_to, number_at, operation_of, places_at, places_fast, times_fast, double_fast, left_fast, to_fast, from_fast, number_fast, address_fast, register_fast, load_fast, accumulator_fast, count_fast, jump_fast, push_fast, pop_fast}
+use Rattle.shortcut.specs.Forms.{is_direct, is_odd, up_to, number_at, combines_to, combines_from, operation_of, is_group, by_immediate, places_at, places_fast, times_fast, double_fast, left_fast, to_fast, from_fast, number_fast, address_fast, register_fast, load_fast, accumulator_fast, count_fast, jump_fast, push_fast, pop_fast}
 use Rattle.shortcut.specs.Shortcut.{Fits, core_from, Tidy, Idle, FastOk}
 use Rattle.shortcut.proofs.Small.{operand_few, cond_le, and_left, and_right, or_left, or_right}
 use Rattle.shortcut.proofs.Classes.{group_opcodes, move_opcodes, jump_opcodes}
-use Rattle.shortcut.proofs.Decoded.{number_none, number_one, number_four, number_long, own, with_modrm_lem, without_modrm}
+use Rattle.shortcut.proofs.Decoded.{number_none, number_one, number_four, number_long, is_own, own, with_modrm_lem, without_modrm}
 use Rattle.shortcut.proofs.Fitting.{below_eight, combining_at, left_fits, first_to, first_number, from_fits, address_fits, Shifting, shift_fits, times_fits}
 use Rattle.shortcut.proofs.Doubling.{double_fits}
 use Rattle.shortcut.proofs.Singles.{naming, register_fits, inc_fits, dec_fits, jump_fits, jump_on_lem, jump_off, push_fits, push_number_fits, call_fits, pop_fits, return_fits}
@@ -102,7 +104,7 @@ module _ (m : Mem) (e : List ℕ) (s : Status) (eip i : ℕ) where
   Reads r n = (v : View) → Shows v m eip i → decode eip v (log_at eip 0) ≡ ok r (log_at eip n)
 
   -- a class with ModRM, no immediate and no form that is refused
-  bare : (c : ℕ) → class_of b ≡ c → 4 ≤ c → has_modrm c ≡ true → undefined_form c md ≡ false → unbuilt_form c md ≡ false → immediate_bytes c b (reg_field md) ≡ 0
+  bare : (c : Class) → class_of b ≡ c → is_own c ≡ true → has_modrm c ≡ true → undefined_form c md ≡ false → unbuilt_form c md ≡ false → immediate_bytes c b (reg_field md) ≡ 0
       → Reads
       (record { family = family_of c (reg_field md); operation = operationIn c b (reg_field md); wide = is_wide c b; register = reg_field md; operand = operand_at m (i + 2) md; immediate = immediate_of c 0; length = up_to m i md })
       (up_to m i md)
@@ -113,35 +115,35 @@ module _ (m : Mem) (e : List ℕ) (s : Status) (eip i : ℕ) where
   to_read op low de = working m e s eip i _ (refl, refl) (left_tidy m e eip i op b md _ _) λ int dir v sh.
       left_fits v m e s eip i int dir CombineTo op 0 _ (up_to m i md) low (de v sh) (λ _ _. refl) (first_to v m e s eip i int dir _ _ _) refl (λ a. refl)
 
-  to_4 : class_of b ≡ 4 → FastOk m e s eip i (to_fast m e eip i (b / 8 % 8) b md)
+  to_arithmetic : class_of b ≡ ArithmeticTo → FastOk m e s eip i (to_fast m e eip i (b / 8 % 8) b md)
   unfolding family_of operationIn
-  to_4 h = to_read (b / 8 % 8) (under_ten (b / 8)) (bare 4 h (omega arith) refl refl refl refl)
+  to_arithmetic h = to_read (b / 8 % 8) (under_ten (b / 8)) (bare ArithmeticTo h refl refl refl refl refl)
 
-  to_8 : class_of b ≡ 8 → FastOk m e s eip i (to_fast m e eip i 8 b md)
+  to_test : class_of b ≡ TestTo → FastOk m e s eip i (to_fast m e eip i 8 b md)
   unfolding family_of operationIn
-  to_8 h = to_read 8 refl (bare 8 h (omega arith) refl refl refl refl)
+  to_test h = to_read 8 refl (bare TestTo h refl refl refl refl refl)
 
-  to_11 : class_of b ≡ 11 → FastOk m e s eip i (to_fast m e eip i 9 b md)
+  to_move : class_of b ≡ MoveTo → FastOk m e s eip i (to_fast m e eip i 9 b md)
   unfolding family_of operationIn
-  to_11 h = to_read 9 refl (bare 11 h (omega arith) refl refl refl refl)
+  to_move h = to_read 9 refl (bare MoveTo h refl refl refl refl refl)
 
   from_read : (op : ℕ) → ltb op 10 ≡ true → Reads (combining_at m i CombineFrom op 0 (up_to m i md)) (up_to m i md) → FastOk m e s eip i (from_fast m e eip i op b md)
   unfolding from_fast
   from_read op low de = working m e s eip i _ (refl, refl) (few_tidy _ (cond_le (is_direct md) 2 (omega arith) (omega arith))) λ int dir v sh. from_fits v m e s eip i int dir op 0 _ low refl (de v sh)
 
-  from_5 : class_of b ≡ 5 → FastOk m e s eip i (from_fast m e eip i (b / 8 % 8) b md)
+  from_arithmetic : class_of b ≡ ArithmeticFrom → FastOk m e s eip i (from_fast m e eip i (b / 8 % 8) b md)
   unfolding family_of operationIn
-  from_5 h = from_read (b / 8 % 8) (under_ten (b / 8)) (bare 5 h (omega arith) refl refl refl refl)
+  from_arithmetic h = from_read (b / 8 % 8) (under_ten (b / 8)) (bare ArithmeticFrom h refl refl refl refl refl)
 
-  from_12 : class_of b ≡ 12 → FastOk m e s eip i (from_fast m e eip i 9 b md)
+  from_move : class_of b ≡ MoveFrom → FastOk m e s eip i (from_fast m e eip i 9 b md)
   unfolding family_of operationIn
-  from_12 h = from_read 9 refl (bare 12 h (omega arith) refl refl refl refl)
+  from_move h = from_read 9 refl (bare MoveFrom h refl refl refl refl refl)
 
-  address_19 : class_of b ≡ 19 → is_direct md ≡ false → FastOk m e s eip i (address_fast m e eip i md)
-  unfolding family_of operationIn arithmetic_family move_family address_fast
-  address_19 h mem = working m e s eip i _ (refl, refl) (few_tidy _ (omega arith)) λ int dir v sh.
+  load_address : class_of b ≡ LoadAddress → is_direct md ≡ false → FastOk m e s eip i (address_fast m e eip i md)
+  unfolding family_of operationIn address_fast
+  load_address h mem = working m e s eip i _ (refl, refl) (few_tidy _ (omega arith)) λ int dir v sh.
       address_fits v m e s eip i int dir (b % 16) 0 _ refl mem
-      (bare 19 h (omega arith) refl (rw mem) refl refl v sh)
+      (bare LoadAddress h refl refl (rw mem) refl refl v sh)
 
   -- an immediate after the operand
   number_read : (op : ℕ) (long : Bool) → ltb op 10 ≡ true → Reads (combining_at m i CombineImmediate op (number_at long m (i + up_to m i md)) (up_to m i md + cond long 4 1)) (up_to m i md + cond long 4 1)
@@ -154,16 +156,16 @@ module _ (m : Mem) (e : List ℕ) (s : Status) (eip i : ℕ) where
       → number eip (cond long 4 1) v (log_at eip (up_to m i md)) ≡ ok (number_at long m (i + up_to m i md)) (log_at eip (up_to m i md + cond long 4 1))
   after_operand long v sh = let few = operand_few m (i + 2) md in number_long v m eip i sh long (up_to m i md) (omega (arith, few))
 
-  number_7 : (long : Bool) → class_of b ≡ 7 → long_opcode b ≡ long → FastOk m e s eip i (number_fast m e eip i (md / 8 % 8) long b md)
+  number_group : (long : Bool) → class_of b ≡ ArithmeticGroup → long_opcode b ≡ long → FastOk m e s eip i (number_fast m e eip i (md / 8 % 8) long b md)
   unfolding family_of operationIn
-  number_7 long h l = number_read (md / 8 % 8) long (under_ten (md / 8)) λ v sh.
-      with_modrm_lem v m eip i sh 7 _ _ (own v m eip i sh 7 h (omega arith)) refl refl refl (rw l (after_operand long v sh))
+  number_group long h l = number_read (md / 8 % 8) long (under_ten (md / 8)) λ v sh.
+      with_modrm_lem v m eip i sh ArithmeticGroup _ _ (own v m eip i sh ArithmeticGroup h refl) refl refl refl (rw l (after_operand long v sh))
 
   -- another reg field is undefined
-  number_16 : class_of b ≡ 16 → md / 8 % 8 ≡ 0 → FastOk m e s eip i (number_fast m e eip i 9 (is_odd b) b md)
+  number_move : class_of b ≡ MoveGroup → md / 8 % 8 ≡ 0 → FastOk m e s eip i (number_fast m e eip i 9 (is_odd b) b md)
   unfolding family_of operationIn
-  number_16 h z = number_read 9 (is_odd b) refl λ v sh.
-      with_modrm_lem v m eip i sh 16 _ _ (own v m eip i sh 16 h (omega arith)) refl (rw (eq-eqb _ _ z)) refl (after_operand (is_odd b) v sh)
+  number_move h z = number_read 9 (is_odd b) refl λ v sh.
+      with_modrm_lem v m eip i sh MoveGroup _ _ (own v m eip i sh MoveGroup h refl) refl (rw (eq-eqb _ _ z)) refl (after_operand (is_odd b) v sh)
 
   -- ---- shifts and products
 
@@ -181,26 +183,26 @@ module _ (m : Mem) (e : List ℕ) (s : Status) (eip i : ℕ) where
         rw (ey, en) (shift_fits v m e s eip i int dir ShiftBy x x n odd by (de v sh) (λ _ _. refl) refl refl (λ a. rw odd))
 
     places_193 : b ≡ 0xc1 → FastOk m e s eip i (places_fast m e eip i b md)
-    unfolding family_of operationIn arithmetic_family class_of
+    unfolding family_of operationIn class_of
     places_193 h =
         let few = operand_few m (i + 2) md in
         places_read false (signed (at m (i + up_to m i md))) (up_to m i md + 1) (rw h) (rw h) (rw h) λ v sh.
-        with_modrm_lem v m eip i sh 30 _ _ (own v m eip i sh 30 (ap class_of h) (omega arith)) refl refl built (rw h (number_one v m eip i sh (up_to m i md) (omega (arith, few))))
+        with_modrm_lem v m eip i sh ShiftImmediate _ _ (own v m eip i sh ShiftImmediate (ap class_of h) refl) refl refl built (rw h (number_one v m eip i sh (up_to m i md) (omega (arith, few))))
 
     places_209 : b ≡ 0xd1 → FastOk m e s eip i (places_fast m e eip i b md)
-    unfolding family_of operationIn arithmetic_family class_of
-    places_209 h = places_read false 1 (up_to m i md) (rw h) (rw h) (rw h (omega arith)) (bare 31 (ap class_of h) (omega arith) refl refl built refl)
+    unfolding family_of operationIn class_of
+    places_209 h = places_read false 1 (up_to m i md) (rw h) (rw h) (rw h (omega arith)) (bare ShiftOne (ap class_of h) refl refl refl built refl)
 
     places_211 : b ≡ 0xd3 → FastOk m e s eip i (places_fast m e eip i b md)
-    unfolding family_of operationIn arithmetic_family class_of
-    places_211 h = places_read true 0 (up_to m i md) (rw h) (rw h) (rw h (omega arith)) (bare 32 (ap class_of h) (omega arith) refl refl built refl)
+    unfolding family_of operationIn class_of
+    places_211 h = places_read true 0 (up_to m i md) (rw h) (rw h) (rw h (omega arith)) (bare ShiftCl (ap class_of h) refl refl refl built refl)
 
-  times_33 : (long : Bool) → class_of b ≡ 33 → long_opcode b ≡ long → FastOk m e s eip i (times_fast m e eip i long md)
-  unfolding family_of operationIn arithmetic_family times_fast
-  times_33 long h l = working m e s eip i _ (refl, refl) (few_tidy _ (cond_le (is_direct md) 2 (omega arith) (omega arith))) λ int dir v sh.
+  times_number : (long : Bool) → class_of b ≡ MultiplyImmediate → long_opcode b ≡ long → FastOk m e s eip i (times_fast m e eip i long md)
+  unfolding family_of operationIn times_fast
+  times_number long h l = working m e s eip i _ (refl, refl) (few_tidy _ (cond_le (is_direct md) 2 (omega arith) (omega arith))) λ int dir v sh.
       let few = operand_few m (i + 2) md in
       times_fits v m e s eip i int dir (b % 16) _ (up_to m i md + cond long 4 1) long refl refl
-      (with_modrm_lem v m eip i sh 33 _ _ (record { is_class = h; no_override = refl; no_escape = refl; built = refl; defined = refl }) refl refl refl (rw l (number_long v m eip i sh long (up_to m i md) (omega (arith, few)))))
+      (with_modrm_lem v m eip i sh MultiplyImmediate _ _ (record { is_class = h; no_override = refl; no_escape = refl; built = refl; defined = refl }) refl refl refl (rw l (number_long v m eip i sh long (up_to m i md) (omega (arith, few)))))
 
   double_247 : b ≡ 0xf7 → is_direct md ≡ true → g ≡ 4 → FastOk m e s eip i (double_fast e eip md)
   unfolding class_of double_fast
@@ -213,71 +215,71 @@ module _ (m : Mem) (e : List ℕ) (s : Status) (eip i : ℕ) where
 
   -- ---- without
 
-  load_15 : class_of b ≡ 15 → FastOk m e s eip i (load_fast m eip i b)
+  load_register : class_of b ≡ MoveRegister → FastOk m e s eip i (load_fast m eip i b)
   unfolding family_of operationIn operate operation register_fast
-  load_15 h = working m e s eip i _ (refl, refl) (few_tidy _ (omega arith)) λ int dir v sh.
+  load_register h = working m e s eip i _ (refl, refl) (few_tidy _ (omega arith)) λ int dir v sh.
       register_fits v m e s eip i int dir 9 0 (b % 8) (eqb (b / 8 % 2) 1) refl (below_eight b) (λ _. refl)
-      (without_modrm v m eip i sh 15 _ _ (own v m eip i sh 15 h (omega arith)) refl refl (number_long v m eip i sh (eqb (b / 8 % 2) 1) 1 (omega arith)))
+      (without_modrm v m eip i sh MoveRegister _ _ (own v m eip i sh MoveRegister h refl) refl refl (number_long v m eip i sh (eqb (b / 8 % 2) 1) 1 (omega arith)))
 
   accumulator_read : (op : ℕ) → ltb op 10 ≡ true → Reads (naming CombineImmediate op (is_odd b) 0 (number_at (is_odd b) m (i + 1)) (1 + cond (is_odd b) 4 1)) (1 + cond (is_odd b) 4 1)
       → FastOk m e s eip i (accumulator_fast m e eip i op b)
   unfolding register_fast
   accumulator_read op low de = working m e s eip i _ (refl, refl) (few_tidy _ (omega arith)) λ int dir v sh. register_fits v m e s eip i int dir op _ 0 (is_odd b) low refl (λ _. refl) (de v sh)
 
-  accumulator_6 : class_of b ≡ 6 → FastOk m e s eip i (accumulator_fast m e eip i (b / 8 % 8) b)
+  accumulator_arithmetic : class_of b ≡ ArithmeticAccumulator → FastOk m e s eip i (accumulator_fast m e eip i (b / 8 % 8) b)
   unfolding family_of operationIn
-  accumulator_6 h = accumulator_read (b / 8 % 8) (under_ten (b / 8)) λ v sh.
-      without_modrm v m eip i sh 6 _ _ (own v m eip i sh 6 h (omega arith)) refl refl (number_long v m eip i sh (is_odd b) 1 (omega arith))
+  accumulator_arithmetic h = accumulator_read (b / 8 % 8) (under_ten (b / 8)) λ v sh.
+      without_modrm v m eip i sh ArithmeticAccumulator _ _ (own v m eip i sh ArithmeticAccumulator h refl) refl refl (number_long v m eip i sh (is_odd b) 1 (omega arith))
 
-  accumulator_9 : class_of b ≡ 9 → FastOk m e s eip i (accumulator_fast m e eip i 8 b)
+  accumulator_test : class_of b ≡ TestAccumulator → FastOk m e s eip i (accumulator_fast m e eip i 8 b)
   unfolding family_of operationIn
-  accumulator_9 h = accumulator_read 8 refl λ v sh.
-      without_modrm v m eip i sh 9 _ _ (own v m eip i sh 9 h (omega arith)) refl refl (number_long v m eip i sh (is_odd b) 1 (omega arith))
+  accumulator_test h = accumulator_read 8 refl λ v sh.
+      without_modrm v m eip i sh TestAccumulator _ _ (own v m eip i sh TestAccumulator h refl) refl refl (number_long v m eip i sh (is_odd b) 1 (omega arith))
 
-  inc_22 : class_of b ≡ 22 → FastOk m e s eip i (count_fast e eip 10 b)
+  inc_register : class_of b ≡ IncrementRegister → FastOk m e s eip i (count_fast e eip 10 b)
   unfolding family_of operationIn count_fast
-  inc_22 h = working m e s eip i _ (refl, refl) (few_tidy _ (omega arith)) λ int dir v sh.
+  inc_register h = working m e s eip i _ (refl, refl) (few_tidy _ (omega arith)) λ int dir v sh.
       inc_fits v m e s eip i int dir 0
-      (without_modrm v m eip i sh 22 0 1 (own v m eip i sh 22 h (omega arith)) refl refl (number_none v m eip i sh 1))
+      (without_modrm v m eip i sh IncrementRegister 0 1 (own v m eip i sh IncrementRegister h refl) refl refl (number_none v m eip i sh 1))
 
-  dec_23 : class_of b ≡ 23 → FastOk m e s eip i (count_fast e eip 11 b)
+  dec_register : class_of b ≡ DecrementRegister → FastOk m e s eip i (count_fast e eip 11 b)
   unfolding family_of operationIn count_fast
-  dec_23 h = working m e s eip i _ (refl, refl) (few_tidy _ (omega arith)) λ int dir v sh.
+  dec_register h = working m e s eip i _ (refl, refl) (few_tidy _ (omega arith)) λ int dir v sh.
       dec_fits v m e s eip i int dir 0
-      (without_modrm v m eip i sh 23 0 1 (own v m eip i sh 23 h (omega arith)) refl refl (number_none v m eip i sh 1))
+      (without_modrm v m eip i sh DecrementRegister 0 1 (own v m eip i sh DecrementRegister h refl) refl refl (number_none v m eip i sh 1))
 
-  push_26 : class_of b ≡ 26 → register (file e) (b % 8) < 4294967296 → FastOk m e s eip i (push_fast e (register (file e) (b % 8)) (wrap (eip + 1)))
-  unfolding family_of operationIn arithmetic_family move_family push_fast
-  push_26 h y = working m e s eip i _ (refl, refl) (stack_tidy _ refl refl (omega arith)) λ int dir v sh.
+  push_register : class_of b ≡ PushRegister → register (file e) (b % 8) < 4294967296 → FastOk m e s eip i (push_fast e (register (file e) (b % 8)) (wrap (eip + 1)))
+  unfolding family_of operationIn push_fast
+  push_register h y = working m e s eip i _ (refl, refl) (stack_tidy _ refl refl (omega arith)) λ int dir v sh.
       push_fits v m e s eip i int dir (b % 16) (b % 8) 0 1 y
-      (without_modrm v m eip i sh 26 0 1 (own v m eip i sh 26 h (omega arith)) refl refl (number_none v m eip i sh 1))
+      (without_modrm v m eip i sh PushRegister 0 1 (own v m eip i sh PushRegister h refl) refl refl (number_none v m eip i sh 1))
 
-  push_27 : (long : Bool) → class_of b ≡ 27 → long_opcode b ≡ long → number_at long m (i + 1) < 4294967296
+  push_immediate : (long : Bool) → class_of b ≡ PushImmediate → long_opcode b ≡ long → number_at long m (i + 1) < 4294967296
       → FastOk m e s eip i (push_fast e (number_at long m (i + 1)) (wrap (eip + (1 + cond long 4 1))))
-  unfolding family_of operationIn arithmetic_family move_family push_fast
-  push_27 long h l y = working m e s eip i _ (refl, refl) (stack_tidy _ refl refl (omega arith)) λ int dir v sh.
+  unfolding family_of operationIn push_fast
+  push_immediate long h l y = working m e s eip i _ (refl, refl) (stack_tidy _ refl refl (omega arith)) λ int dir v sh.
       push_number_fits v m e s eip i int dir (b % 16) 0 (number_at long m (i + 1)) (1 + cond long 4 1) y
-      (without_modrm v m eip i sh 27 _ _ (own v m eip i sh 27 h (omega arith)) refl refl (rw l (number_long v m eip i sh long 1 (omega arith))))
+      (without_modrm v m eip i sh PushImmediate _ _ (own v m eip i sh PushImmediate h refl) refl refl (rw l (number_long v m eip i sh long 1 (omega arith))))
 
-  pop_28 : class_of b ≡ 28 → FastOk m e s eip i (pop_fast e 5 (b % 8) (wrap (eip + 1)))
-  unfolding family_of operationIn arithmetic_family move_family pop_fast
-  pop_28 h = working m e s eip i _ (refl, refl) (stack_tidy _ refl refl (omega arith)) λ int dir v sh.
+  pop_register : class_of b ≡ PopRegister → FastOk m e s eip i (pop_fast e 5 (b % 8) (wrap (eip + 1)))
+  unfolding family_of operationIn pop_fast
+  pop_register h = working m e s eip i _ (refl, refl) (stack_tidy _ refl refl (omega arith)) λ int dir v sh.
       pop_fits v m e s eip i int dir (b % 16) 0 1
-      (without_modrm v m eip i sh 28 0 1 (own v m eip i sh 28 h (omega arith)) refl refl (number_none v m eip i sh 1))
+      (without_modrm v m eip i sh PopRegister 0 1 (own v m eip i sh PopRegister h refl) refl refl (number_none v m eip i sh 1))
 
-  return_41 : class_of b ≡ 41 → FastOk m e s eip i (pop_fast e 6 8 (wrap (eip + 1)))
-  unfolding family_of operationIn arithmetic_family move_family flow_family pop_fast
-  return_41 h = working m e s eip i _ (refl, refl) (stack_tidy _ refl refl (omega arith)) λ int dir v sh.
+  return_plain : class_of b ≡ ReturnPlain → FastOk m e s eip i (pop_fast e 6 8 (wrap (eip + 1)))
+  unfolding family_of operationIn pop_fast
+  return_plain h = working m e s eip i _ (refl, refl) (stack_tidy _ refl refl (omega arith)) λ int dir v sh.
       return_fits v m e s eip i int dir (b % 16) 0 1
-      (without_modrm v m eip i sh 41 0 1 (own v m eip i sh 41 h (omega arith)) refl refl (number_none v m eip i sh 1))
+      (without_modrm v m eip i sh ReturnPlain 0 1 (own v m eip i sh ReturnPlain h refl) refl refl (number_none v m eip i sh 1))
 
   -- ---- jumps and calls
 
-  jump_36 : class_of b ≡ 36 → long_opcode b ≡ false → FastOk m e s eip i (jump_fast (cond (holds (b % 16) s) (wrap (wrap (eip + 2) + signed md)) (wrap (eip + 2))))
-  unfolding family_of operationIn arithmetic_family move_family flow_family jump_fast
-  jump_36 h l = jumping m e s eip i _ (refl, (refl, refl)) refl λ int dir v sh.
+  jump_if : class_of b ≡ JumpIf → long_opcode b ≡ false → FastOk m e s eip i (jump_fast (cond (holds (b % 16) s) (wrap (wrap (eip + 2) + signed md)) (wrap (eip + 2))))
+  unfolding family_of operationIn jump_fast
+  jump_if h l = jumping m e s eip i _ (refl, (refl, refl)) refl λ int dir v sh.
       by int dir v (holds (b % 16) s) refl
-      (without_modrm v m eip i sh 36 (signed md) 2 (own v m eip i sh 36 h (omega arith)) refl refl (rw l (number_one v m eip i sh 1 (omega arith))))
+      (without_modrm v m eip i sh JumpIf (signed md) 2 (own v m eip i sh JumpIf h refl) refl refl (rw l (number_one v m eip i sh 1 (omega arith))))
     where
       by : (int dir : Bool) (v : View) (c : Bool) → holds (b % 16) s ≡ c → decode eip v (log_at eip 0) ≡ ok (naming JumpOn (b % 16) true 0 (signed md) 2) (log_at eip 2)
           → Fits v (core_from e eip s int dir) (jump_fast (cond (holds (b % 16) s) (wrap (wrap (eip + 2) + signed md)) (wrap (eip + 2))))
@@ -285,73 +287,73 @@ module _ (m : Mem) (e : List ℕ) (s : Status) (eip i : ℕ) where
       by int dir v false y de = rw y (jump_off v m e s eip i int dir (b % 16) 0 (signed md) 2 y de)
 
   jump_235 : b ≡ 235 → FastOk m e s eip i (jump_fast (wrap (wrap (eip + 2) + signed md)))
-  unfolding family_of operationIn arithmetic_family move_family flow_family class_of jump_fast
+  unfolding family_of operationIn class_of jump_fast
   jump_235 h = jumping m e s eip i _ (refl, (refl, refl)) refl λ int dir v sh.
       jump_fits v m e s eip i int dir (b % 16) 0 (signed md) 2
-      (without_modrm v m eip i sh 39 (signed md) 2 (own v m eip i sh 39 (ap class_of h) (omega arith)) refl refl (rw h (number_one v m eip i sh 1 (omega arith))))
+      (without_modrm v m eip i sh JumpBy (signed md) 2 (own v m eip i sh JumpBy (ap class_of h) refl) refl refl (rw h (number_one v m eip i sh 1 (omega arith))))
 
   jump_233 : b ≡ 233 → FastOk m e s eip i (jump_fast (wrap (wrap (eip + 5) + dword_at m (i + 1))))
-  unfolding family_of operationIn arithmetic_family move_family flow_family class_of jump_fast
+  unfolding family_of operationIn class_of jump_fast
   jump_233 h = jumping m e s eip i _ (refl, (refl, refl)) refl λ int dir v sh.
       jump_fits v m e s eip i int dir (b % 16) 0 (dword_at m (i + 1)) 5
-      (without_modrm v m eip i sh 39 (dword_at m (i + 1)) 5 (own v m eip i sh 39 (ap class_of h) (omega arith)) refl refl (rw h (number_four v m eip i sh 1 (omega arith))))
+      (without_modrm v m eip i sh JumpBy (dword_at m (i + 1)) 5 (own v m eip i sh JumpBy (ap class_of h) refl) refl refl (rw h (number_four v m eip i sh 1 (omega arith))))
 
   call_232 : b ≡ 232 → FastOk m e s eip i (push_fast e (wrap (eip + 5)) (wrap (wrap (eip + 5) + dword_at m (i + 1))))
-  unfolding family_of operationIn arithmetic_family move_family flow_family class_of push_fast
+  unfolding family_of operationIn class_of push_fast
   call_232 h = working m e s eip i _ (refl, refl) (stack_tidy _ refl refl (omega arith)) λ int dir v sh.
       call_fits v m e s eip i int dir (b % 16) 0 (dword_at m (i + 1)) 5
-      (without_modrm v m eip i sh 40 (dword_at m (i + 1)) 5 (own v m eip i sh 40 (ap class_of h) (omega arith)) refl refl (rw h (number_four v m eip i sh 1 (omega arith))))
+      (without_modrm v m eip i sh CallBy (dword_at m (i + 1)) 5 (own v m eip i sh CallBy (ap class_of h) refl) refl refl (rw h (number_four v m eip i sh 1 (omega arith))))
 
   -- ---- from what the code read
 
-  module _ (b' md' c' : ℕ) (eb : b' ≡ at m i) (em : md' ≡ at m (i + 1)) (ec : c' ≡ class_of b') (p : Fast) where
-    class : (n : ℕ) → c' ≡ n → class_of (at m i) ≡ n
-    class n h = ap class_of (sym eb) ∙ sym ec ∙ h
+  module _ (b' md' : ℕ) (c' : Class) (eb : b' ≡ at m i) (em : md' ≡ at m (i + 1)) (ec : c' ≡ class_of b') (p : Fast) where
+    class : (k : Class) → c' ≡ k → class_of (at m i) ≡ k
+    class k h = ap class_of (sym eb) ∙ sym ec ∙ h
 
-    pub taken_to : (eqb c' 4 || eqb c' 8 || eqb c' 11) ≡ true → (op : ℕ) → op ≡ operation_of c' b' → p ≡ to_fast m e eip i op b' md' → FastOk m e s eip i p
-    taken_to h op eo ep = by (eqb c' 4) refl (eqb c' 8) refl (eqb c' 11) refl
+    pub taken_to : combines_to c' ≡ true → (op : ℕ) → op ≡ operation_of c' b' → p ≡ to_fast m e eip i op b' md' → FastOk m e s eip i p
+    taken_to h op eo ep = by c' refl h
       where
-        at_class : (n : ℕ) → c' ≡ n → FastOk m e s eip i (to_fast m e eip i (operation_of n (at m i)) (at m i) (at m (i + 1))) → FastOk m e s eip i p
-        at_class n hn k = rw (ep, eo, hn, eb, em) k
+        at_class : (k : Class) → c' ≡ k → FastOk m e s eip i (to_fast m e eip i (operation_of k (at m i)) (at m i) (at m (i + 1))) → FastOk m e s eip i p
+        at_class k hk f = rw (ep, eo, hk, eb, em) f
 
-        by : (x : Bool) → eqb c' 4 ≡ x → (y : Bool) → eqb c' 8 ≡ y → (z : Bool) → eqb c' 11 ≡ z → FastOk m e s eip i p
-        by true x y y' z z' = at_class 4 (eqb-true _ _ x) (to_4 (class 4 (eqb-true _ _ x)))
-        by false x true y z z' = at_class 8 (eqb-true _ _ y) (to_8 (class 8 (eqb-true _ _ y)))
-        by false x false y true z = at_class 11 (eqb-true _ _ z) (to_11 (class 11 (eqb-true _ _ z)))
-        by false x false y false z = absurd (false≢true (rw (x, y, z) at h))
+        by : (k : Class) → c' ≡ k → combines_to k ≡ true → FastOk m e s eip i p
+        by ArithmeticTo x t = at_class ArithmeticTo x (to_arithmetic (class ArithmeticTo x))
+        by TestTo x t = at_class TestTo x (to_test (class TestTo x))
+        by MoveTo x t = at_class MoveTo x (to_move (class MoveTo x))
+        by _ x t = absurd (false≢true t)
 
-    pub taken_from : (eqb c' 5 || eqb c' 12) ≡ true → (op : ℕ) → op ≡ operation_of c' b' → p ≡ from_fast m e eip i op b' md' → FastOk m e s eip i p
-    taken_from h op eo ep = by (eqb c' 5) refl (eqb c' 12) refl
+    pub taken_from : combines_from c' ≡ true → (op : ℕ) → op ≡ operation_of c' b' → p ≡ from_fast m e eip i op b' md' → FastOk m e s eip i p
+    taken_from h op eo ep = by c' refl h
       where
-        at_class : (n : ℕ) → c' ≡ n → FastOk m e s eip i (from_fast m e eip i (operation_of n (at m i)) (at m i) (at m (i + 1))) → FastOk m e s eip i p
-        at_class n hn k = rw (ep, eo, hn, eb, em) k
+        at_class : (k : Class) → c' ≡ k → FastOk m e s eip i (from_fast m e eip i (operation_of k (at m i)) (at m i) (at m (i + 1))) → FastOk m e s eip i p
+        at_class k hk f = rw (ep, eo, hk, eb, em) f
 
-        by : (x : Bool) → eqb c' 5 ≡ x → (y : Bool) → eqb c' 12 ≡ y → FastOk m e s eip i p
-        by true x y y' = at_class 5 (eqb-true _ _ x) (from_5 (class 5 (eqb-true _ _ x)))
-        by false x true y = at_class 12 (eqb-true _ _ y) (from_12 (class 12 (eqb-true _ _ y)))
-        by false x false y = absurd (false≢true (rw (x, y) at h))
+        by : (k : Class) → c' ≡ k → combines_from k ≡ true → FastOk m e s eip i p
+        by ArithmeticFrom x t = at_class ArithmeticFrom x (from_arithmetic (class ArithmeticFrom x))
+        by MoveFrom x t = at_class MoveFrom x (from_move (class MoveFrom x))
+        by _ x t = absurd (false≢true t)
 
-    pub taken_address : c' ≡ 19 → md' < 192 → p ≡ address_fast m e eip i md' → FastOk m e s eip i p
-    taken_address h d ep = rw (ep, em) (address_19 (class 19 h) (rw (← em) (lt-leb 192 md' d)))
+    pub taken_address : c' ≡ LoadAddress → md' < 192 → p ≡ address_fast m e eip i md' → FastOk m e s eip i p
+    taken_address h d ep = rw (ep, em) (load_address (class LoadAddress h) (rw (← em) (lt-leb 192 md' d)))
 
     -- 80 to 83, or MOV by C6 and C7
-    pub taken_number : b' < 256 → (eqb c' 7 || eqb c' 16) ≡ true → (op : ℕ) (long : Bool) → (eqb c' 7 || eqb (md' / 8 % 8) 0) ≡ true → op ≡ cond (eqb c' 7) (md' / 8 % 8) 9
+    pub taken_number : b' < 256 → by_immediate c' ≡ true → (op : ℕ) (long : Bool) → (is_group c' || eqb (md' / 8 % 8) 0) ≡ true → op ≡ cond (is_group c') (md' / 8 % 8) 9
         → long ≡ (is_odd b' && not (eqb b' 0x83)) → p ≡ number_fast m e eip i op long b' md' → FastOk m e s eip i p
-    taken_number small hc op long ht eo el ep = by (eqb c' 7) refl
+    taken_number small hc op long ht eo el ep = by c' refl hc
       where
-        at_group : c' ≡ 7 → (n : ℕ) (l : Bool) → b' ≡ n → long_opcode n ≡ l → (is_odd n && not (eqb n 0x83)) ≡ l → FastOk m e s eip i p
+        at_group : c' ≡ ArithmeticGroup → (n : ℕ) (l : Bool) → b' ≡ n → long_opcode n ≡ l → (is_odd n && not (eqb n 0x83)) ≡ l → FastOk m e s eip i p
         at_group g n l k f w =
             let o : op ≡ md' / 8 % 8 = rw g at eo in
             let u : long ≡ l = rw (k, w) at el in
-            rw (ep, o, u, eb, em) (number_7 l (class 7 g) (ap long_opcode (sym eb ∙ k) ∙ f))
+            rw (ep, o, u, eb, em) (number_group l (class ArithmeticGroup g) (ap long_opcode (sym eb ∙ k) ∙ f))
 
-        at_move : c' ≡ 16 → md' / 8 % 8 ≡ 0 → (n : ℕ) → b' ≡ n → (is_odd n && not (eqb n 0x83)) ≡ is_odd n → FastOk m e s eip i p
+        at_move : c' ≡ MoveGroup → md' / 8 % 8 ≡ 0 → (n : ℕ) → b' ≡ n → (is_odd n && not (eqb n 0x83)) ≡ is_odd n → FastOk m e s eip i p
         at_move g z n k w =
             let o : op ≡ 9 = rw g at eo in
             let u : long ≡ is_odd b' = rw k (rw (k, w) at el) in
-            rw (ep, o, u, eb, em) (number_16 (class 16 g) (rw em at z))
+            rw (ep, o, u, eb, em) (number_move (class MoveGroup g) (rw em at z))
 
-        group : c' ≡ 7 → b' / 4 ≡ 32 → (x : Bool) → eqb b' 0x80 ≡ x → (y : Bool) → eqb b' 0x81 ≡ y → (z : Bool) → eqb b' 0x82 ≡ z → FastOk m e s eip i p
+        group : c' ≡ ArithmeticGroup → b' / 4 ≡ 32 → (x : Bool) → eqb b' 0x80 ≡ x → (y : Bool) → eqb b' 0x81 ≡ y → (z : Bool) → eqb b' 0x82 ≡ z → FastOk m e s eip i p
         group g k true x y y' z z' = at_group g 0x80 false (eqb-true _ _ x) refl refl
         group g k false x true y z z' = at_group g 0x81 true (eqb-true _ _ y) refl refl
         group g k false x false y true z = at_group g 0x82 false (eqb-true _ _ z) refl refl
@@ -361,39 +363,38 @@ module _ (m : Mem) (e : List ℕ) (s : Status) (eip i : ℕ) where
             let n2 : b' ≡ 0x82 → ⊥ = eqb-false b' 0x82 z in
             at_group g 0x83 false (omega (arith, k, n0, n1, n2)) refl refl
 
-        move : c' ≡ 16 → b' / 2 ≡ 99 → md' / 8 % 8 ≡ 0 → (x : Bool) → eqb b' 0xc6 ≡ x → FastOk m e s eip i p
+        move : c' ≡ MoveGroup → b' / 2 ≡ 99 → md' / 8 % 8 ≡ 0 → (x : Bool) → eqb b' 0xc6 ≡ x → FastOk m e s eip i p
         move g k z true x = at_move g z 0xc6 (eqb-true _ _ x) refl
         move g k z false x = let n0 : b' ≡ 0xc6 → ⊥ = eqb-false b' 0xc6 x in at_move g z 0xc7 (omega (arith, k, n0)) refl
 
-        by : (x : Bool) → eqb c' 7 ≡ x → FastOk m e s eip i p
-        by true x = let g = eqb-true c' 7 x in group g (group_opcodes b' small (sym ec ∙ g)) (eqb b' 0x80) refl (eqb b' 0x81) refl (eqb b' 0x82) refl
-        by false x =
-            let g = eqb-true c' 16 (rw x at hc) in
-            move g (move_opcodes b' small (sym ec ∙ g)) (eqb-true (md' / 8 % 8) 0 (rw x at ht)) (eqb b' 0xc6) refl
+        by : (k : Class) → c' ≡ k → by_immediate k ≡ true → FastOk m e s eip i p
+        by ArithmeticGroup g t = group g (group_opcodes b' small (sym ec ∙ g)) (eqb b' 0x80) refl (eqb b' 0x81) refl (eqb b' 0x82) refl
+        by MoveGroup g t = move g (move_opcodes b' small (sym ec ∙ g)) (eqb-true (md' / 8 % 8) 0 (rw g at ht)) (eqb b' 0xc6) refl
+        by _ g t = absurd (false≢true t)
 
-    pub taken_load : c' ≡ 15 → p ≡ load_fast m eip i b' → FastOk m e s eip i p
-    taken_load h ep = rw (ep, eb) (load_15 (class 15 h))
+    pub taken_load : c' ≡ MoveRegister → p ≡ load_fast m eip i b' → FastOk m e s eip i p
+    taken_load h ep = rw (ep, eb) (load_register (class MoveRegister h))
 
-    pub taken_accumulator : c' ≡ 6 → p ≡ accumulator_fast m e eip i (b' / 8 % 8) b' → FastOk m e s eip i p
-    taken_accumulator h ep = rw (ep, eb) (accumulator_6 (class 6 h))
+    pub taken_accumulator : c' ≡ ArithmeticAccumulator → p ≡ accumulator_fast m e eip i (b' / 8 % 8) b' → FastOk m e s eip i p
+    taken_accumulator h ep = rw (ep, eb) (accumulator_arithmetic (class ArithmeticAccumulator h))
 
-    pub taken_test : c' ≡ 9 → p ≡ accumulator_fast m e eip i 8 b' → FastOk m e s eip i p
-    taken_test h ep = rw (ep, eb) (accumulator_9 (class 9 h))
+    pub taken_test : c' ≡ TestAccumulator → p ≡ accumulator_fast m e eip i 8 b' → FastOk m e s eip i p
+    taken_test h ep = rw (ep, eb) (accumulator_test (class TestAccumulator h))
 
-    pub taken_inc : c' ≡ 22 → p ≡ count_fast e eip 10 b' → FastOk m e s eip i p
-    taken_inc h ep = rw (ep, eb) (inc_22 (class 22 h))
+    pub taken_inc : c' ≡ IncrementRegister → p ≡ count_fast e eip 10 b' → FastOk m e s eip i p
+    taken_inc h ep = rw (ep, eb) (inc_register (class IncrementRegister h))
 
-    pub taken_dec : c' ≡ 23 → p ≡ count_fast e eip 11 b' → FastOk m e s eip i p
-    taken_dec h ep = rw (ep, eb) (dec_23 (class 23 h))
+    pub taken_dec : c' ≡ DecrementRegister → p ≡ count_fast e eip 11 b' → FastOk m e s eip i p
+    taken_dec h ep = rw (ep, eb) (dec_register (class DecrementRegister h))
 
-    pub taken_push : (y n : ℕ) → c' ≡ 26 → y < 4294967296 → y ≡ register (file e) (b' % 8) → n ≡ wrap (eip + 1) → p ≡ push_fast e y n → FastOk m e s eip i p
-    taken_push y n h small ey en ep = let ey' : y ≡ register (file e) (at m i % 8) = rw (← eb) ey in rw (ep, en, ey') (push_26 (class 26 h) (rw ey' at small))
+    pub taken_push : (y n : ℕ) → c' ≡ PushRegister → y < 4294967296 → y ≡ register (file e) (b' % 8) → n ≡ wrap (eip + 1) → p ≡ push_fast e y n → FastOk m e s eip i p
+    taken_push y n h small ey en ep = let ey' : y ≡ register (file e) (at m i % 8) = rw (← eb) ey in rw (ep, en, ey') (push_register (class PushRegister h) (rw ey' at small))
 
-    pub taken_pop : (n : ℕ) → c' ≡ 28 → n ≡ wrap (eip + 1) → p ≡ pop_fast e 5 (b' % 8) n → FastOk m e s eip i p
-    taken_pop n h en ep = rw (ep, en, eb) (pop_28 (class 28 h))
+    pub taken_pop : (n : ℕ) → c' ≡ PopRegister → n ≡ wrap (eip + 1) → p ≡ pop_fast e 5 (b' % 8) n → FastOk m e s eip i p
+    taken_pop n h en ep = rw (ep, en, eb) (pop_register (class PopRegister h))
 
-    pub taken_return : (n : ℕ) → c' ≡ 41 → n ≡ wrap (eip + 1) → p ≡ pop_fast e 6 8 n → FastOk m e s eip i p
-    taken_return n h en ep = rw (ep, en) (return_41 (class 41 h))
+    pub taken_return : (n : ℕ) → c' ≡ ReturnPlain → n ≡ wrap (eip + 1) → p ≡ pop_fast e 6 8 n → FastOk m e s eip i p
+    taken_return n h en ep = rw (ep, en) (return_plain (class ReturnPlain h))
 
     -- 70 to 7F have a byte
     short : b' / 16 ≡ 7 → long_opcode b' ≡ false
@@ -406,8 +407,8 @@ module _ (m : Mem) (e : List ℕ) (s : Status) (eip i : ℕ) where
         let n6 : b' < 0x180 = omega arith in
         rw (ne_eqb _ _ n1, ne_eqb _ _ n2, ne_eqb _ _ n3, ne_eqb _ _ n4, ne_eqb _ _ n5, lt-leb _ _ n6)
 
-    pub taken_jump : c' ≡ 36 → b' < 256 → p ≡ jump_fast (cond (holds (b' % 16) s) (wrap (wrap (eip + 2) + signed md')) (wrap (eip + 2))) → FastOk m e s eip i p
-    taken_jump h l ep = rw (ep, eb, em) (jump_36 (class 36 h) (rw (← eb) (short (jump_opcodes b' l (sym ec ∙ h)))))
+    pub taken_jump : c' ≡ JumpIf → b' < 256 → p ≡ jump_fast (cond (holds (b' % 16) s) (wrap (wrap (eip + 2) + signed md')) (wrap (eip + 2))) → FastOk m e s eip i p
+    taken_jump h l ep = rw (ep, eb, em) (jump_if (class JumpIf h) (rw (← eb) (short (jump_opcodes b' l (sym ec ∙ h)))))
 
   module _ (b' md' : ℕ) (eb : b' ≡ at m i) (em : md' ≡ at m (i + 1)) (p : Fast) where
     opcode : (n : ℕ) → b' ≡ n → at m i ≡ n
@@ -432,8 +433,8 @@ module _ (m : Mem) (e : List ℕ) (s : Status) (eip i : ℕ) where
     unfolding class_of
     taken_times h long el ep = by (eqb b' 0x69) refl (eqb b' 0x6b) refl
       where
-        at_opcode : (n : ℕ) (l : Bool) → b' ≡ n → class_of n ≡ 33 → long_opcode n ≡ l → eqb n 0x69 ≡ l → FastOk m e s eip i p
-        at_opcode n l k c f w = let u : long ≡ l = rw (k, w) at el in rw (ep, em, u) (times_33 l (ap class_of (opcode n k) ∙ c) (ap long_opcode (opcode n k) ∙ f))
+        at_opcode : (n : ℕ) (l : Bool) → b' ≡ n → class_of n ≡ MultiplyImmediate → long_opcode n ≡ l → eqb n 0x69 ≡ l → FastOk m e s eip i p
+        at_opcode n l k c f w = let u : long ≡ l = rw (k, w) at el in rw (ep, em, u) (times_number l (ap class_of (opcode n k) ∙ c) (ap long_opcode (opcode n k) ∙ f))
 
         by : (x : Bool) → eqb b' 0x69 ≡ x → (y : Bool) → eqb b' 0x6b ≡ y → FastOk m e s eip i p
         by true x y y' = at_opcode 0x69 true (eqb-true _ _ x) refl refl refl
@@ -446,9 +447,9 @@ module _ (m : Mem) (e : List ℕ) (s : Status) (eip i : ℕ) where
         let r : md' / 8 % 8 ≡ 4 = eqb-true _ _ (and_right (leb 192 md') (eqb (md' / 8 % 8) 4) t) in
         rw (ep, em) (double_247 (opcode 0xf7 h) (rw em at d) (rw em at r))
 
-    pub taken_push_number : (n : ℕ) (long : Bool) (y z : ℕ) → b' ≡ n → class_of n ≡ 27 → long_opcode n ≡ long → y < 4294967296 → y ≡ number_at long m (i + 1) → z ≡ wrap (eip + (1 + cond long 4 1))
+    pub taken_push_number : (n : ℕ) (long : Bool) (y z : ℕ) → b' ≡ n → class_of n ≡ PushImmediate → long_opcode n ≡ long → y < 4294967296 → y ≡ number_at long m (i + 1) → z ≡ wrap (eip + (1 + cond long 4 1))
         → p ≡ push_fast e y z → FastOk m e s eip i p
-    taken_push_number n long y z h c l small ey ez ep = rw (ep, ez, ey) (push_27 long (ap class_of (opcode n h) ∙ c) (ap long_opcode (opcode n h) ∙ l) (rw ey at small))
+    taken_push_number n long y z h c l small ey ez ep = rw (ep, ez, ey) (push_immediate long (ap class_of (opcode n h) ∙ c) (ap long_opcode (opcode n h) ∙ l) (rw ey at small))
 
     pub taken_near : (n x z : ℕ) → b' ≡ 235 → n ≡ wrap (eip + 2) → x ≡ signed md' → z ≡ wrap (n + x) → p ≡ jump_fast z → FastOk m e s eip i p
     taken_near n x z h en ex ez ep = rw (ep, ez, en, ex, em) (jump_235 (opcode 235 h))

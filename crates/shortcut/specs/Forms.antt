@@ -2,6 +2,8 @@
 -- Assumes nothing.
 use Rattle.std.specs.Prelude.{ℕ, ◌+◌, ◌/◌, ◌%◌, Bool, true, false, cond, ◌||◌, List, ◌==◌, nat_le}
 use Rattle.alu.specs.Arithmetic.{writes}
+use Rattle.encoding.specs.declared.Class.{Class}
+use Rattle.encoding.specs.declared.Class.TheVariants.{ArithmeticTo, ArithmeticFrom, ArithmeticGroup, TestTo, MoveTo, MoveFrom, MoveGroup}
 use Rattle.machine.specs.Record.{Mem, at, wrap, register, read_at}
 use Rattle.machine.specs.Paging.{dword_at}
 use Rattle.fetch.specs.Fetch.{signed}
@@ -16,13 +18,38 @@ is_direct m = nat_le 192 m
 abbrev pub is_odd : ℕ → Bool
 is_odd b = b % 2 == 1
 
--- the classes of two operands with ModRM, in either direction
-abbrev pub combines : ℕ → Bool
-combines c = (c == 4 || c == 8 || c == 11) || (c == 5 || c == 12)
+-- the classes of two operands with ModRM: on the operand by the register
+abbrev pub combines_to : Class → Bool
+combines_to ArithmeticTo = true
+combines_to TestTo = true
+combines_to MoveTo = true
+combines_to _ = false
 
--- the operation of such a class: ADD to CMP by the opcode (4, 5), TEST (8), MOV (11, 12)
-abbrev pub operation_of : ℕ → ℕ → ℕ
-operation_of c b = cond (nat_le c 5) (b / 8 % 8) (cond (c == 8) 8 9)
+-- and on the register by the operand
+abbrev pub combines_from : Class → Bool
+combines_from ArithmeticFrom = true
+combines_from MoveFrom = true
+combines_from _ = false
+
+abbrev pub combines : Class → Bool
+combines c = combines_to c || combines_from c
+
+-- the operation of such a class: ADD to CMP by the opcode, TEST, MOV
+abbrev pub operation_of : Class → ℕ → ℕ
+operation_of ArithmeticTo b = b / 8 % 8
+operation_of ArithmeticFrom b = b / 8 % 8
+operation_of TestTo b = 8
+operation_of _ b = 9
+
+-- on the operand by an immediate: 80 to 83, and MOV
+abbrev pub is_group : Class → Bool
+is_group ArithmeticGroup = true
+is_group _ = false
+
+abbrev pub by_immediate : Class → Bool
+by_immediate ArithmeticGroup = true
+by_immediate MoveGroup = true
+by_immediate _ = false
 
 -- where the operand lies: 0 where it is a register
 unfoldable pub spot_of : Mem → List ℕ → ℕ → ℕ → ℕ

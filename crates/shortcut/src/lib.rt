@@ -13,9 +13,10 @@ ghost use Rattle.fetch.specs.Fetch.{signed};
 ghost use Rattle.alu.specs.declared.Status.{Status};
 ghost use Rattle.alu.specs.Brief.{status_in};
 ghost use Rattle.shortcut.specs.Shortcut.{FastOk};
-ghost use Rattle.shortcut.specs.Forms.{combines, register_fast, accumulator_fast, count_fast, jump_fast, push_fast, pop_fast, operation_of};
+ghost use Rattle.shortcut.specs.Forms.{combines, is_group, by_immediate, register_fast, accumulator_fast, count_fast, jump_fast, push_fast, pop_fast, operation_of};
 
 use alu::brief::Brief;
+use encoding::Class;
 use outcome::Fast;
 
 // Not taken.
@@ -162,19 +163,25 @@ fn shift(mem: &[u8], e: &[u32], eip: u32, i: usize, b: u32, m: u32) -> Fast
 }
 
 // The operation of two operands with ModRM: ADD to CMP, then TEST and MOV, as their opcodes have it.
-pub fn operation(c: u32, b: u32) -> u32
+pub fn operation(c: Class, b: u32) -> u32
     requires { (b < 256) × ((c ≡ class_of b) × (combines c ≡ true)) }
     ensures { result ≡ operation_of c b }
 {
     b / 8 - b / 128 * 8
 }
 
+fn is_group(c: Class) -> bool
+    ensures { result ≡ is_group c }
+{
+    matches!(c, Class::ArithmeticGroup)
+}
+
 // The operand by an immediate: ADD to CMP by the reg field, or MOV. All of them are here, so that the compiler draws the form in.
-fn numbered(mem: &[u8], e: &[u32], eip: u32, i: usize, c: u32, b: u32, m: u32) -> Fast
-    requires { (i + 16 ≤ length mem.now) × ((b ≡ at mem.now i) × ((m ≡ at mem.now (i + 1)) × ((b < 256) × ((c ≡ class_of b) × ((c == 7 || c == 16) ≡ true))))) }
+fn numbered(mem: &[u8], e: &[u32], eip: u32, i: usize, c: Class, b: u32, m: u32) -> Fast
+    requires { (i + 16 ≤ length mem.now) × ((b ≡ at mem.now i) × ((m ≡ at mem.now (i + 1)) × ((b < 256) × ((c ≡ class_of b) × (by_immediate c ≡ true))))) }
     ensures { (s : Status) → FastOk mem.now e.now s eip i result }
 {
-    let group = c == 7;
+    let group = is_group(c);
     if !(group | (m / 8 % 8 == 0)) {
         return none();
     }
@@ -241,25 +248,25 @@ fn push_number(mem: &[u8], e: &[u32], eip: u32, i: usize, b: u32) -> Fast
 }
 
 // Opcodes without ModRM, by their class.
-fn plain(mem: &[u8], e: &[u32], s: Brief, eip: u32, i: usize, c: u32, b: u32, m: u32) -> Fast
+fn plain(mem: &[u8], e: &[u32], s: Brief, eip: u32, i: usize, c: Class, b: u32, m: u32) -> Fast
     requires { (i + 16 ≤ length mem.now) × ((b ≡ at mem.now i) × ((m ≡ at mem.now (i + 1)) × ((m < 256) × ((b < 256) × (c ≡ class_of b))))) }
     ensures { FastOk mem.now e.now (status_in s) eip i result }
 {
     match c {
-        6 => on_accumulator(mem, e, eip, i, b / 8 % 8, b),
-        9 => on_accumulator(mem, e, eip, i, 8, b),
-        15 => on_register(mem, eip, i, 9, b / 8 % 2 == 1, 0, b % 8),
-        22 => count(e, eip, 10, b),
-        23 => count(e, eip, 11, b),
-        26 => push(
+        Class::ArithmeticAccumulator => on_accumulator(mem, e, eip, i, b / 8 % 8, b),
+        Class::TestAccumulator => on_accumulator(mem, e, eip, i, 8, b),
+        Class::MoveRegister => on_register(mem, eip, i, 9, b / 8 % 2 == 1, 0, b % 8),
+        Class::IncrementRegister => count(e, eip, 10, b),
+        Class::DecrementRegister => count(e, eip, 11, b),
+        Class::PushRegister => push(
             e,
             outcome::register(e, b % 8),
             std::num::wrapping_add_u32(eip, 1),
         ),
-        27 => push_number(mem, e, eip, i, b),
-        28 => pop(e, 5, b % 8, std::num::wrapping_add_u32(eip, 1)),
-        36 => { jump_if(s, eip, b, m) }
-        41 => pop(e, 6, 8, std::num::wrapping_add_u32(eip, 1)),
+        Class::PushImmediate => push_number(mem, e, eip, i, b),
+        Class::PopRegister => pop(e, 5, b % 8, std::num::wrapping_add_u32(eip, 1)),
+        Class::JumpIf => { jump_if(s, eip, b, m) }
+        Class::ReturnPlain => pop(e, 6, 8, std::num::wrapping_add_u32(eip, 1)),
         _ => by_opcode(mem, e, eip, i, b, m),
     }
 }
@@ -272,20 +279,20 @@ pub fn quick(mem: &[u8], t: &[u8; 512], e: &[u32], s: Brief, eip: u32, i: usize)
     let b = bytes::byte(mem, i);
     let m = bytes::byte(mem, i + 1);
     let c = encoding::class_in(t, b);
-    if (c == 4) | (c == 8) | (c == 11) {
-        return modrm::to_operand(mem, e, eip, i, operation(c, b), b, m);
-    }
-    if (c == 5) | (c == 12) {
-        return modrm::from_operand(mem, e, eip, i, operation(c, b), b, m);
-    }
-    if (c == 7) | (c == 16) {
-        return numbered(mem, e, eip, i, c, b, m);
-    }
-    if c == 19 {
-        if 192 <= m {
-            return none();
+    match c {
+        Class::ArithmeticTo | Class::TestTo | Class::MoveTo => {
+            modrm::to_operand(mem, e, eip, i, operation(c, b), b, m)
         }
-        return modrm::address_of(mem, e, eip, i, m);
+        Class::ArithmeticFrom | Class::MoveFrom => {
+            modrm::from_operand(mem, e, eip, i, operation(c, b), b, m)
+        }
+        Class::ArithmeticGroup | Class::MoveGroup => numbered(mem, e, eip, i, c, b, m),
+        Class::LoadAddress => {
+            if 192 <= m {
+                return none();
+            }
+            modrm::address_of(mem, e, eip, i, m)
+        }
+        _ => plain(mem, e, s, eip, i, c, b, m),
     }
-    plain(mem, e, s, eip, i, c, b, m)
 }

@@ -1,24 +1,24 @@
 use Rattle.decode.specs.Decode.{classed}
-use borrow.Author.Tests.{eq-eqb, ne_eqb}
+use Rattle.decode.proofs.Laws.{is_built, is_defined}
 use mathlib.Core.Path.{sym, ◌∙◌}
 use Rattle.decode.proofs.classed.Goals as goal
 
-pub returns-then-c-eq-NOT_BUILT : goal.returns-then-c-eq-NOT_BUILT
+pub returns-in-NotBuilt : goal.returns-in-NotBuilt
 unfolding classed
-returns-then-c-eq-NOT_BUILT c = rw (eq-eqb _ _ c.if-c-eq-NOT_BUILT.true)
+returns-in-NotBuilt c = rw c.in-NotBuilt.is
 
-pub returns-then-c-eq-UNDEFINED : goal.returns-then-c-eq-UNDEFINED
+pub returns-in-Undefined : goal.returns-in-Undefined
 unfolding classed
-returns-then-c-eq-UNDEFINED c = rw (ne_eqb _ _ c.if-c-eq-NOT_BUILT.false, eq-eqb _ _ c.if-c-eq-UNDEFINED.true)
+returns-in-Undefined c = rw c.in-Undefined.is
 
 pub returns-then-has_modrm : goal.returns-then-has_modrm
 unfolding classed
-returns-then-has_modrm c = rw ((sym c.has_modrm.ensures ∙ c.if-has_modrm.true), ne_eqb _ _ c.if-c-eq-NOT_BUILT.false, ne_eqb _ _ c.if-c-eq-UNDEFINED.false) c.with_modrm.ensures
+returns-then-has_modrm c = rw ((sym c.has_modrm.ensures ∙ c.if-has_modrm.true), is_built _ c.in_default.not-NotBuilt, is_defined _ c.in_default.not-Undefined) c.with_modrm.ensures
 
 pub returns-then-has_offset : goal.returns-then-has_offset
 unfolding classed
-returns-then-has_offset c = rw ((sym c.has_modrm.ensures ∙ c.if-has_modrm.false), (sym c.has_offset.ensures ∙ c.if-has_offset.true), ne_eqb _ _ c.if-c-eq-NOT_BUILT.false, ne_eqb _ _ c.if-c-eq-UNDEFINED.false) c.with_offset.ensures
+returns-then-has_offset c = rw ((sym c.has_modrm.ensures ∙ c.if-has_modrm.false), (sym c.has_offset.ensures ∙ c.if-has_offset.true), is_built _ c.in_default.not-NotBuilt, is_defined _ c.in_default.not-Undefined) c.with_offset.ensures
 
 pub returns : goal.returns
 unfolding classed
-returns c = rw ((sym c.has_modrm.ensures ∙ c.if-has_modrm.false), (sym c.has_offset.ensures ∙ c.if-has_offset.false), ne_eqb _ _ c.if-c-eq-NOT_BUILT.false, ne_eqb _ _ c.if-c-eq-UNDEFINED.false) (rw (← c.implied_register.ensures) c.finish.ensures)
+returns c = rw ((sym c.has_modrm.ensures ∙ c.if-has_modrm.false), (sym c.has_offset.ensures ∙ c.if-has_offset.false), is_built _ c.in_default.not-NotBuilt, is_defined _ c.in_default.not-Undefined) (rw (← c.implied_register.ensures) c.finish.ensures)
