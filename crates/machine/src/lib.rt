@@ -8,7 +8,7 @@ ghost use Rattle.machine.specs.Replies.{is_done};
 use alu::Status;
 
 // What a step, a run or an audit answers. `numbered` in specs/Replies gives each its number.
-#[derive(Clone, Copy)]
+#[derive(Clone, Copy, PartialEq, Eq)]
 pub enum Reply {
     Done,
     Fault(u32, u32, u32),
@@ -25,7 +25,7 @@ pub enum Reply {
 
 // EAX ECX EDX EBX ESP EBP ESI EDI.
 #[repr(C)]
-#[derive(Clone, Copy)]
+#[derive(Clone, Copy, PartialEq, Eq)]
 pub struct Registers {
     pub e: [u32; 8],
 }
@@ -48,7 +48,7 @@ pub struct Core {
 
 // What no instruction of the build can change.
 #[repr(C)]
-#[derive(Clone, Copy)]
+#[derive(Clone, Copy, PartialEq, Eq)]
 pub struct Control {
     pub cr0: u32,
     pub cr2: u32,
@@ -58,7 +58,7 @@ pub struct Control {
 
 // The record: fourteen dwords, in this order for C too.
 #[repr(C)]
-#[derive(Clone, Copy)]
+#[derive(Clone, Copy, PartialEq, Eq)]
 pub struct Cpu {
     pub regs: Registers,
     pub eip: u32,
