@@ -1,5 +1,0 @@
--- Each turn takes from what is left of the budget. Assumes nothing.
-use Rattle.pass.proofs.play.Given as goal
-
-abbrev pub decreases-loop-left : goal.decreases-loop-left
-decreases-loop-left g l = l.left
