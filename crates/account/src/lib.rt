@@ -29,9 +29,7 @@ impl Rows {
 
     // The row of the pass that has been played, below the others. Where there is no room it is left out.
     pub fn add(&mut self, row: Row) {
-        match self.passes.try_push(row) {
-            Ok(()) | Err(_) => {}
-        }
+        let _ = self.passes.try_push(row);
     }
 
     // Table and staircase up to a pass that the guest did not end by itself.

@@ -83,13 +83,13 @@ impl Ground<'_> {
 
 // Who takes what a guest sends: the ground, if there is one, and how that is told.
 #[derive(Drop)]
-pub struct Station<'a, W> {
-    pub out: &'a mut W,
+pub struct Station<'o, 'g, W> {
+    pub out: &'o mut W,
     pub voice: Voice,
-    pub ground: Option<Ground<'a>>,
+    pub ground: Option<Ground<'g>>,
 }
 
-impl<W: Write> Station<'_, W> {
+impl<W: Write> Station<'_, '_, W> {
     fn tell(&mut self, waypoint: u32, bytes: u32) -> io::Result<()> {
         match self.voice {
             Voice::Words => writeln!(self.out, "  waypoint {waypoint}: {bytes} bytes"),

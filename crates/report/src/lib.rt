@@ -12,13 +12,13 @@ use text::Counted;
 
 // Where the log is written, how, and the memory that it speaks of.
 #[derive(Drop)]
-pub struct Log<'a, W> {
-    pub out: &'a mut W,
+pub struct Log<'o, 'm, W> {
+    pub out: &'o mut W,
     pub voice: Voice,
-    pub mem: &'a [u8],
+    pub mem: &'m [u8],
 }
 
-impl<W: Write> Log<'_, W> {
+impl<W: Write> Log<'_, '_, W> {
     // A reply under its label, or under its key.
     fn answer(&mut self, c: Cpu, q: Reply, key: &str, label: &str) -> io::Result<()> {
         match self.voice {
