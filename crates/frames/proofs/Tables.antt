@@ -7,7 +7,6 @@ use Rattle.machine.specs.declared.Control.{Control}
 use Rattle.machine.specs.Record.{Mem, has}
 use Rattle.machine.specs.Paging.{Gone, Names, entry_of, entry, dir_frame}
 use Rattle.machine.specs.Audit.{later, first, is_some, names, holds_table}
-use Rattle.frames.specs.Users.{opened, leads_to}
 
 -- whether one of the numbers below n passes is whether there is a first
 module _ (p : ℕ → Bool) where
@@ -58,10 +57,3 @@ module _ (m : Mem) (c : Control) (f : ℕ) where
   pub table : (b : Bool) → (f ≡ dir_frame c → ⊥) → b ≡ list_any named (range_with_len 0 1024) → b ≡ holds_table m c f
   unfolding holds_table
   table b h e = rw (ne_eqb f (dir_frame c) h) (e ∙ any_first named 1024)
-
-module _ (m : Mem) (f x e : ℕ) (p : e ≡ x) where
-  pub leads : (r : Bool) → e % 8 ≡ 7 → r ≡ opened m (e / 4096) f → r ≡ leads_to m f x
-  leads r h q = rw (← p) (rw (eq-eqb (e % 8) 7 h) q)
-
-  pub stops : (e % 8 ≡ 7 → ⊥) → false ≡ leads_to m f x
-  stops h = rw (← p) (rw (ne_eqb (e % 8) 7 h))

@@ -132,6 +132,7 @@ pub fn edit_at(s: &[u8], at: usize, waypoints: u32) -> Result<Option<Edit>, Slip
 // Reads every line, for a plan of so many waypoints, and answers the last pass that is named; or the first line that is wrong.
 pub fn check_edits(s: &[u8], waypoints: u32) -> Result<u32, Bad<Slip>> {
     let mut last: u32 = 0;
+    // Stays: the number of a line has 32 bits and wraps, where `enumerate` would count in 64.
     let mut n: u32 = 1;
     for line in s.split(|b| *b == b'\n') {
         let edit = edit_in(line, waypoints).map_err(|what| Bad { line: n, what })?;

@@ -89,6 +89,7 @@ fn cpu(values: Values) -> Cpu {
 // The record, or the first line that is wrong.
 pub fn record_of(s: &[u8]) -> Result<Cpu, Bad<Flaw>> {
     let mut values: Values = [None; 14];
+    // Stays: the number of a line has 32 bits and wraps, where `enumerate` would count in 64.
     let mut n: u32 = 1;
     for line in s.split(|b| *b == b'\n') {
         take_line(line, &mut values).map_err(|what| Bad { line: n, what })?;

@@ -1,4 +1,7 @@
 // A reply by its number and its name, and the numbers that it carries.
+ghost use Rattle.std.specs.Prelude.{◌≡◌};
+ghost use Rattle.machine.specs.Replies.{numbered};
+
 use machine::Reply;
 use std::io::Write;
 use std::{fmt, io};
@@ -9,23 +12,28 @@ pub struct Short(pub Reply);
 
 impl fmt::Display for Short {
     fn fmt<W: fmt::Write>(&self, f: &mut fmt::Formatter<W>) -> fmt::Result {
+        let n = number(self.0);
         match self.0 {
-            Reply::Done => write!(f, "0 Done"),
-            Reply::Fault(vector, _, _) => write!(f, "1 Fault {vector}"),
-            Reply::Trap(vector, _) => write!(f, "2 Trap {vector}"),
-            Reply::Halt(_) => write!(f, "3 Halt"),
-            Reply::BadRecord => write!(f, "4 Bad record"),
-            Reply::NoMemory(_) => write!(f, "5 No memory there"),
-            Reply::NotBuilt(_) => write!(f, "6 Not built"),
-            Reply::Spent => write!(f, "7 Spent"),
-            Reply::Safe => write!(f, "8 Safe"),
-            Reply::TableOutside(_) => write!(f, "9 Table outside"),
-            Reply::Exposed(_) => write!(f, "10 Exposed"),
+            Reply::Done => write!(f, "{n} Done"),
+            Reply::Fault(vector, _, _) => write!(f, "{n} Fault {vector}"),
+            Reply::Trap(vector, _) => write!(f, "{n} Trap {vector}"),
+            Reply::Halt(_) => write!(f, "{n} Halt"),
+            Reply::BadRecord => write!(f, "{n} Bad record"),
+            Reply::NoMemory(_) => write!(f, "{n} No memory there"),
+            Reply::NotBuilt(_) => write!(f, "{n} Not built"),
+            Reply::Spent => write!(f, "{n} Spent"),
+            Reply::Safe => write!(f, "{n} Safe"),
+            Reply::TableOutside(_) => write!(f, "{n} Table outside"),
+            Reply::Exposed(_) => write!(f, "{n} Exposed"),
         }
     }
 }
 
-pub fn number(q: Reply) -> u32 {
+// Stays: the number is what a script reads, and the definition of the replies gives it.
+#[tactic(auto, unfolding(machine::specs::Replies::numbered))]
+pub fn number(q: Reply) -> u32
+    ensures { result ≡ (numbered q).number }
+{
     match q {
         Reply::Done => 0,
         Reply::Fault(_, _, _) => 1,

@@ -26,11 +26,11 @@ impl Applied {
     }
 }
 
-// Moves the position at a place, in units of its last bit.
-fn shift(mem: &mut [u8], at: u32, by: Shift) {
+// Moves the position at a place.
+fn shift(mem: &mut [u8], at: u32, s: Shift) {
     let x = position(mem, at);
-    let units = u64::from(by.by);
-    let moved = match by.direction {
+    let units = u64::from(s.by);
+    let moved = match s.direction {
         Direction::Up => x.wrapping_add(units),
         Direction::Down => x.wrapping_sub(units),
     };
