@@ -16,10 +16,12 @@ const FRAMES: usize = 1024;
 // The bytes of a frame.
 const SIZE: usize = 4096;
 
-// The frames of a memory as they were: a copy of each, and none of one that was blank.
+// The frames of a memory as they were: one copy behind another, and for each frame the number of its copy, or none where it was blank. The
+// numbers are short, since this is handed on by value and the stack has little room beside the largest memory.
 #[derive(Clone, Copy)]
 pub struct Copies<'a> {
-    frames: [Option<&'a [u8]>; FRAMES],
+    room: &'a [u8],
+    numbers: [Option<u16>; FRAMES],
 }
 
 // What there is of frame f: past the end of memory nothing, which counts as zeros.
@@ -39,24 +41,33 @@ fn is_marked(a: u8, b: u8) -> bool
 impl<'a> Copies<'a> {
     // Copies every frame that is not blank, if there is room for them.
     pub fn remember(mem: &[u8], room: &'a mut [u8]) -> Option<Copies<'a>> {
-        let mut frames = [None; FRAMES];
-        let mut rest = room;
+        let mut numbers = [None; FRAMES];
+        let mut used: u16 = 0;
         for f in 0..FRAMES {
             let bytes = frame(mem, f as u32);
             if bytes.iter().any(|b| *b != 0) {
-                let (copy, more) = rest.split_at_mut_checked(SIZE)?;
-                rest = more;
+                let at = usize::from(used) * SIZE;
+                let copy = room.get_mut(at..at + SIZE)?;
                 for (i, b) in copy.iter_mut().enumerate() {
                     *b = cells::get(bytes, i, 0);
                 }
-                frames[f] = Some(&*copy);
+                numbers[f] = Some(used);
+                used = used.wrapping_add(1);
             }
         }
-        Some(Copies { frames })
+        Some(Copies { room, numbers })
+    }
+
+    // The copy of frame f; of a blank one there is none, which counts as zeros.
+    fn copy_of(&self, f: u32) -> &[u8] {
+        match cells::get(&self.numbers, f as usize, None) {
+            Some(n) => frame(self.room, u32::from(n)),
+            None => &[],
+        }
     }
 
     pub fn change_of(&self, mem: &[u8], f: u32) -> Change {
-        let before = cells::get(&self.frames, f as usize, None).unwrap_or(&[]);
+        let before = self.copy_of(f);
         let now = frame(mem, f);
         let mut change = Change::Nothing;
         for i in 0..SIZE {

@@ -1,8 +1,6 @@
-// The program's arguments by their place, and sentences about them. All that is said here goes to err, the standard error.
-ghost use Rattle.std.specs.Prelude.{◌≤◌, length};
-
-use given::Number;
+// The program's arguments, and sentences about them. All that is said here goes to err, the standard error.
 use std::env::{Env, FillError};
+use std::fmt::Display;
 use std::fs::File;
 use std::io;
 use std::io::{ErrorKind, Write};
@@ -11,13 +9,23 @@ use std::rt::Files;
 // The longest argument that is taken.
 const LONGEST: usize = 4096;
 
-// Puts argument i at the start of b, and answers its length; 0 where there is none, or where it is longer than b.
-fn argument<R: Env>(rt: &R, i: usize, b: &mut [u8]) -> usize
-    ensures { result ≤ length b.new }
-{
+// The arguments, each by its place after the program's name.
+#[derive(Clone, Copy)]
+pub enum Argument {
+    Command = 1,
+    Image = 2,
+    Load = 3,
+    Record = 4,
+    Budget = 5,
+    Size = 6,
+    Edits = 7,
+}
+
+// Argument i, read to the start of b. Where there is none, or where it is longer than b, it is empty.
+fn argument_at<'b, R: Env>(rt: &R, i: usize, b: &'b mut [u8]) -> &'b [u8] {
     match rt.arg(i, b) {
-        Ok(n) => n,
-        Err(_) => 0,
+        Ok(n) => &b[..n],
+        Err(_) => &b[..0],
     }
 }
 
@@ -29,28 +37,6 @@ fn is_there<R: Env>(rt: &R, i: usize) -> bool {
     }
 }
 
-// How many arguments there are, the program's name among them.
-pub fn count<R: Env>(rt: &R) -> usize {
-    for i in 0..usize::MAX {
-        if !is_there(rt, i) {
-            return i;
-        }
-    }
-    usize::MAX
-}
-
-pub fn is<R: Env>(rt: &R, i: usize, word: &[u8]) -> bool {
-    let mut b = [0u8; LONGEST];
-    let n = argument(rt, i, &mut b);
-    given::same(&b[..n], word)
-}
-
-pub fn number<R: Env>(rt: &R, i: usize) -> Number {
-    let mut b = [0u8; LONGEST];
-    let n = argument(rt, i, &mut b);
-    given::number_of(&b[..n])
-}
-
 // The file of that name. A name that is not UTF-8 is none of the system's here.
 fn file_of<R: Files>(rt: &R, name: &[u8]) -> io::Result<R::File> {
     match std::str::from_utf8(name) {
@@ -59,60 +45,68 @@ fn file_of<R: Files>(rt: &R, name: &[u8]) -> io::Result<R::File> {
     }
 }
 
-// Opens the file that argument i names, and says why where it cannot.
-pub fn open<R: Env + Files, E: Write>(
-    rt: &R,
-    err: &mut E,
-    i: usize,
-) -> io::Result<Option<R::File>> {
-    let mut b = [0u8; LONGEST];
-    let n = argument(rt, i, &mut b);
-    match file_of(rt, &b[..n]) {
-        Ok(file) => Ok(Some(file)),
-        Err(e) => {
-            text::say(err, b"gateway: ")?;
-            text::say(err, &b[..n])?;
-            text::say(err, b": ")?;
-            text::reason(err, e)?;
-            text::end(err)?;
-            Ok(None)
+// Who asks: the arguments come from rt, and what is wrong with them is said on err.
+#[derive(Drop)]
+pub struct Ask<'a, R, E> {
+    pub rt: &'a R,
+    pub err: &'a mut E,
+}
+
+impl<R: Env + Files, E: Write> Ask<'_, R, E> {
+    // How many arguments there are, the program's name among them.
+    pub fn count(&self) -> usize {
+        for i in 0..usize::MAX {
+            if !is_there(self.rt, i) {
+                return i;
+            }
+        }
+        usize::MAX
+    }
+
+    pub fn is(&self, i: usize, word: &str) -> bool {
+        let mut b = [0u8; LONGEST];
+        argument_at(self.rt, i, &mut b) == word.as_bytes()
+    }
+
+    pub fn number(&self, a: Argument) -> Option<u32> {
+        let mut b = [0u8; LONGEST];
+        given::number_of(argument_at(self.rt, a as usize, &mut b))
+    }
+
+    // Opens the file that an argument names, and says why where it cannot.
+    pub fn open(&mut self, a: Argument) -> io::Result<Option<R::File>> {
+        let mut b = [0u8; LONGEST];
+        match file_of(self.rt, argument_at(self.rt, a as usize, &mut b)) {
+            Ok(file) => Ok(Some(file)),
+            Err(e) => {
+                self.begin(a)?;
+                text::reason(self.err, e)?;
+                writeln!(self.err)?;
+                Ok(None)
+            }
         }
     }
-}
 
-// The start of a sentence: the program, and the argument that is wrong.
-pub fn begin<R: Env, E: Write>(rt: &R, err: &mut E, i: usize) -> io::Result<()> {
-    let mut b = [0u8; LONGEST];
-    let n = argument(rt, i, &mut b);
-    text::say(err, b"gateway: ")?;
-    text::say(err, &b[..n])?;
-    text::say(err, b": ")
-}
+    // The start of a sentence: the program, and the argument that is wrong.
+    pub fn begin(&mut self, a: Argument) -> io::Result<()> {
+        let mut b = [0u8; LONGEST];
+        let name = argument_at(self.rt, a as usize, &mut b);
+        write!(self.err, "gateway: ")?;
+        self.err.write_all(name)?;
+        write!(self.err, ": ")
+    }
 
-pub fn complain<R: Env, E: Write>(rt: &R, err: &mut E, i: usize, words: &[u8]) -> io::Result<()> {
-    begin(rt, err, i)?;
-    text::say(err, words)?;
-    text::end(err)
-}
+    pub fn complain<D: Display + Drop>(&mut self, a: Argument, what: D) -> io::Result<()> {
+        self.begin(a)?;
+        writeln!(self.err, "{what}")
+    }
 
-// A sentence about line n of the file that argument i names.
-pub fn complain_of_line<R: Env, E: Write>(
-    rt: &R,
-    err: &mut E,
-    i: usize,
-    n: u32,
-    words: &[u8],
-) -> io::Result<()> {
-    begin(rt, err, i)?;
-    text::say(err, b"line ")?;
-    text::decimal(err, n)?;
-    text::say(err, b": ")?;
-    text::say(err, words)?;
-    text::end(err)
-}
+    // A sentence about line n of the file that an argument names.
+    pub fn complain_of_line(&mut self, a: Argument, n: u32, what: &str) -> io::Result<()> {
+        self.complain(a, format_args!("line {n}: {what}"))
+    }
 
-pub fn complain_at_all<E: Write>(err: &mut E, words: &[u8]) -> io::Result<()> {
-    text::say(err, b"gateway: ")?;
-    text::say(err, words)?;
-    text::end(err)
+    pub fn complain_at_all(&mut self, what: &str) -> io::Result<()> {
+        writeln!(self.err, "gateway: {what}")
+    }
 }

@@ -8,7 +8,8 @@ mod files;
 mod order;
 mod run;
 
-use order::Asked;
+use ask::{Argument, Ask};
+use order::Command;
 use std::env::Env;
 use std::io;
 use std::io::Write;
@@ -19,32 +20,26 @@ const LARGEST: usize = 4194304;
 
 const COPIES: usize = 3932160;
 
-fn help<W: Write>(out: &mut W) -> io::Result<()> {
-    text::say(
-        out,
-        b"gateway run IMAGE LOAD RECORD BUDGET SIZE [--plain]\n  one pass of the guest in IMAGE, and the log of it\ngateway bill IMAGE LOAD RECORD BUDGET SIZE EDITS [--plain]\n  passes with edits in between, and what they cost\n\nIMAGE is put at the address LOAD in a memory of SIZE bytes. RECORD names the registers, a name and a hexadecimal value a line.\nBUDGET is the most steps of a pass; an interrupt that is answered counts as one. EDITS has lines PASS WAYPOINT lat|lon DELTA\nand PASS jitter -1|1. A number is decimal, or hexadecimal with 0x. --plain writes key=value lines.\n",
-    )
-}
+const HELP: &[u8] =
+    b"gateway run IMAGE LOAD RECORD BUDGET SIZE [--plain]\n  one pass of the guest in IMAGE, and the log of it\ngateway bill IMAGE LOAD RECORD BUDGET SIZE EDITS [--plain]\n  passes with edits in between, and what they cost\n\nIMAGE is put at the address LOAD in a memory of SIZE bytes. RECORD names the registers, a name and a hexadecimal value a line.\nBUDGET is the most steps of a pass; an interrupt that is answered counts as one. EDITS has lines PASS WAYPOINT lat|lon DELTA\nand PASS jitter -1|1. A number is decimal, or hexadecimal with 0x. --plain writes key=value lines.\n";
 
 // Reads the rest of the order, and carries it out.
-fn command<R: Env + Files, W: Write, E: Write>(
-    rt: &R,
+fn carry_out<R: Env + Files, W: Write, E: Write>(
+    ask: &mut Ask<'_, R, E>,
     out: &mut W,
-    err: &mut E,
-    bill: bool,
+    command: Command,
     mem: &mut [u8],
     copies: &mut [u8],
 ) -> io::Result<()> {
-    let asked = order::read(rt, err, bill)?;
-    let Asked::Order(o) = asked else {
+    let Some(o) = order::read(ask, command)? else {
         return Ok(());
     };
     let size = o.size as usize;
     if size <= mem.len() {
-        if bill {
-            bill::bill(rt, out, err, &mut mem[0..size], copies, o)?;
-        } else {
-            run::run(rt, out, err, &mut mem[0..size], copies, o)?;
+        let mem = &mut mem[..size];
+        match command {
+            Command::Run => run::run(ask, out, mem, copies, o)?,
+            Command::Bill => bill::bill(ask, out, mem, copies, o)?,
         }
     }
     Ok(())
@@ -52,25 +47,30 @@ fn command<R: Env + Files, W: Write, E: Write>(
 
 // The command that the first argument names.
 fn obey<R: Env + Files, W: Write, E: Write>(
-    rt: &R,
+    ask: &mut Ask<'_, R, E>,
     out: &mut W,
-    err: &mut E,
     mem: &mut [u8],
     copies: &mut [u8],
 ) -> io::Result<()> {
-    let bill = ask::is(rt, 1, b"bill");
-    if bill | ask::is(rt, 1, b"run") {
-        command(rt, out, err, bill, mem, copies)
-    } else if (ask::count(rt) < 2) | ask::is(rt, 1, b"help") {
-        help(out)
+    if ask.is(1, "bill") {
+        carry_out(ask, out, Command::Bill, mem, copies)
+    } else if ask.is(1, "run") {
+        carry_out(ask, out, Command::Run, mem, copies)
+    } else if (ask.count() < 2) | ask.is(1, "help") {
+        out.write_all(HELP)
     } else {
-        ask::complain(rt, err, 1, b"no such command; there are run, bill and help")
+        ask.complain(
+            Argument::Command,
+            "no such command; there are run, bill and help",
+        )
     }
 }
 
 // The command, over memory that main lends.
 fn begin(rt: &HostRuntime, mem: &mut [u8; LARGEST], copies: &mut [u8; COPIES]) -> io::Result<()> {
-    obey(rt, &mut rt.stdout(), &mut rt.stderr(), mem, copies)
+    let mut err = rt.stderr();
+    let mut ask = Ask { rt, err: &mut err };
+    obey(&mut ask, &mut rt.stdout(), mem, copies)
 }
 
 fn main(rt: HostRuntime) -> io::Result<()> {

@@ -1,123 +1,117 @@
 // What is asked for: the numbers among the arguments, checked.
 ghost use Rattle.std.specs.Prelude.{◌≤◌};
 
-use crate::ask;
-use given::Number;
+use crate::ask::{Argument, Ask};
+use journal::Voice;
 use std::env::Env;
 use std::io;
 use std::io::Write;
+use std::rt::Files;
+
+#[derive(Clone, Copy)]
+pub enum Command {
+    Run,
+    Bill,
+}
 
 #[derive(Clone, Copy)]
 pub struct Order {
     pub load: u32,
     pub budget: u32,
     pub size: u32,
-    pub plain: bool,
+    pub voice: Voice,
 }
-
-#[derive(Clone, Copy)]
-pub enum Asked {
-    Order(Order),
-    Refused,
-}
-
-// Where each argument stands.
-pub const IMAGE: usize = 2;
-
-pub const LOAD: usize = 3;
-
-pub const RECORD: usize = 4;
-
-pub const BUDGET: usize = 5;
-
-pub const SIZE: usize = 6;
-
-pub const EDITS: usize = 7;
 
 const LARGEST: u32 = 4194304;
+
+impl Command {
+    // How many arguments it has, the program's name among them.
+    fn words(self) -> usize
+        ensures { result ≤ 8 }
+    {
+        match self {
+            Command::Run => 7,
+            Command::Bill => 8,
+        }
+    }
+
+    fn usage(self) -> &'static str {
+        match self {
+            Command::Run => "run takes IMAGE LOAD RECORD BUDGET SIZE, and --plain if wanted",
+            Command::Bill =>
+                "bill takes IMAGE LOAD RECORD BUDGET SIZE EDITS, and --plain if wanted",
+        }
+    }
+}
 
 fn is_size(n: u32) -> bool {
     (4096 <= n) & (n <= LARGEST) & (n % 4096 == 0)
 }
 
-fn refused<R: Env, E: Write>(rt: &R, err: &mut E, i: usize, words: &[u8]) -> io::Result<Asked> {
-    ask::complain(rt, err, i, words)?;
-    Ok(Asked::Refused)
-}
-
 // The number of an argument, and a sentence where it is none.
-fn number<R: Env, E: Write>(rt: &R, err: &mut E, i: usize, name: &[u8]) -> io::Result<Number> {
-    let n = ask::number(rt, i);
-    if let Number::Value(_) = n {
-        return Ok(n);
+fn number<R: Env + Files, E: Write>(
+    ask: &mut Ask<'_, R, E>,
+    a: Argument,
+    name: &str,
+) -> io::Result<Option<u32>> {
+    let n = ask.number(a);
+    if n.is_none() {
+        ask.complain(
+            a,
+            format_args!("{name} is no number (decimal, or hexadecimal with 0x)"),
+        )?;
     }
-    ask::begin(rt, err, i)?;
-    text::say(err, name)?;
-    text::say(err, b" is no number (decimal, or hexadecimal with 0x)\n")?;
     Ok(n)
 }
 
-fn numbers<R: Env, E: Write>(rt: &R, err: &mut E, plain: bool) -> io::Result<Asked> {
-    let Number::Value(load) = number(rt, err, LOAD, b"the load address")? else {
-        return Ok(Asked::Refused);
+fn numbers<R: Env + Files, E: Write>(
+    ask: &mut Ask<'_, R, E>,
+    voice: Voice,
+) -> io::Result<Option<Order>> {
+    let Some(load) = number(ask, Argument::Load, "the load address")? else {
+        return Ok(None);
     };
-    let Number::Value(budget) = number(rt, err, BUDGET, b"the budget")? else {
-        return Ok(Asked::Refused);
+    let Some(budget) = number(ask, Argument::Budget, "the budget")? else {
+        return Ok(None);
     };
-    let Number::Value(size) = number(rt, err, SIZE, b"the size of memory")? else {
-        return Ok(Asked::Refused);
+    let Some(size) = number(ask, Argument::Size, "the size of memory")? else {
+        return Ok(None);
     };
     if !is_size(size) {
-        return refused(
-            rt,
-            err,
-            SIZE,
-            b"the size of memory is a multiple of 4096, from 4096 to 4194304",
-        );
+        ask.complain(
+            Argument::Size,
+            "the size of memory is a multiple of 4096, from 4096 to 4194304",
+        )?;
+        return Ok(None);
     }
     if size <= load {
-        return refused(
-            rt,
-            err,
-            LOAD,
-            b"the load address lies past the end of memory",
-        );
+        ask.complain(
+            Argument::Load,
+            "the load address lies past the end of memory",
+        )?;
+        return Ok(None);
     }
-    Ok(Asked::Order(Order {
+    Ok(Some(Order {
         load,
         budget,
         size,
-        plain,
+        voice,
     }))
 }
 
-// How many arguments a command has, the program's name among them.
-fn words(bill: bool) -> usize
-    ensures { result ≤ 8 }
-{
-    if bill { 8 } else { 7 }
-}
-
-// Reads the arguments of `run`, or of `bill`, which has one more.
-pub fn read<R: Env, E: Write>(rt: &R, err: &mut E, bill: bool) -> io::Result<Asked> {
-    let n = ask::count(rt);
-    let whole = words(bill);
+// Reads the arguments of a command. None where they are refused, once that is said.
+pub fn read<R: Env + Files, E: Write>(
+    ask: &mut Ask<'_, R, E>,
+    command: Command,
+) -> io::Result<Option<Order>> {
+    let n = ask.count();
+    let whole = command.words();
     if n == whole {
-        return numbers(rt, err, false);
+        return numbers(ask, Voice::Words);
     }
-    if (n == whole + 1) & ask::is(rt, whole, b"--plain") {
-        return numbers(rt, err, true);
+    if (n == whole + 1) & ask.is(whole, "--plain") {
+        return numbers(ask, Voice::Plain);
     }
-    if bill {
-        ask::complain_at_all(
-            err,
-            b"bill takes IMAGE LOAD RECORD BUDGET SIZE EDITS, and --plain if wanted",
-        )?;
-    } else {
-        ask::complain_at_all(
-            err,
-            b"run takes IMAGE LOAD RECORD BUDGET SIZE, and --plain if wanted",
-        )?;
-    }
-    Ok(Asked::Refused)
+    ask.complain_at_all(command.usage())?;
+    Ok(None)
 }

@@ -1,6 +1,0 @@
--- `sum` goes through the passes. Assumes nothing.
-use Rattle.std.proofs.Common.{◌-◌}
-use Rattle.account.proofs.table.sum.Given as goal
-
-abbrev pub decreases-loop-pass : goal.decreases-loop-pass
-decreases-loop-pass l = l.last - l.pass
