@@ -3,7 +3,7 @@
 use Rattle.std.specs.Prelude.{ℕ, ◌+◌, ◌%◌, Bool, true, false, cond, not, ◌||◌, List, ◌==◌, nat_lt, slice_index}
 use Rattle.alu.specs.declared.Status.{Status}
 use Rattle.alu.specs.declared.Out.{Out}
-use Rattle.alu.specs.Arithmetic.{operate, operate_one}
+use Rattle.alu.specs.Arithmetic.{operation, operate, single, operate_one}
 use Rattle.shifts.specs.Shifts.{shift}
 use Rattle.products.specs.declared.Product.{Product}
 use Rattle.products.specs.Products.{product}
@@ -47,6 +47,10 @@ right_of p a = cond (asks 0 p || asks 4 p || asks 1 p || asks 3 p) p.y a
 
 abbrev pub low_out : Product → Out
 low_out q = record { value = q.low; status = q.status }
+
+-- over the width w: by number as the operations of two operands have it, up to MOV, 9; 10 is INC, and any other DEC
+unfoldable pub operated : ℕ → ℕ → ℕ → ℕ → Status → Out
+operated op w x y s = cond (nat_lt op 10) (operation op w x y s) (cond (op == 10) (single 0 w x s) (single 1 w x s))
 
 -- by number as the operations of two operands have it, up to MOV, 9; 10 is INC, 11 DEC; of dwords alone 14 is IMUL, and 12, 13 and 15 are SHL,
 -- SHR and SAR of x by y places

@@ -5,10 +5,13 @@ ghost use Rattle.std.specs.Prelude.{◌≡◌, ◌<◌, true, false, slice_index
 ghost use Rattle.machine.specs.Record.{read_at, with_register, write_at, replaced};
 ghost use Rattle.products.specs.Products.{product};
 ghost use Rattle.shifts.specs.Shifts.{shifted};
+ghost use Rattle.alu.specs.Arithmetic.{bits};
 ghost use Rattle.alu.specs.Brief.{status_in, out_in};
-ghost use Rattle.outcome.specs.Outcome.{file, low_out, out_of, stacked, deposit_of, doubled_in};
+ghost use Rattle.outcome.specs.Outcome.{file, low_out, operated, out_of, stacked, deposit_of, doubled_in};
 
+use alu::brief;
 use alu::brief::{Brief, Short};
+use alu::word::Word;
 
 // An instruction: is it taken; is it a jump and nothing else; is it a MUL, which is not taken as the others are since it writes two registers;
 // the operation (up to 9 as for two operands, 10 INC, 11 DEC, 12, 13 and 15 shifts, 14 IMUL); a dword's or a byte's; the access (0 none, 1 a read
@@ -57,11 +60,10 @@ pub fn read(e: &[u32], w: bool, n: u32) -> u32
 fn times(x: u32, y: u32, f: Brief) -> Short
     ensures { out_in result ≡ low_out (product true true x y (status_in f)) }
 {
-    let q = products::multiply32(true, x, y, f);
-    let flags = q.flags;
+    let q = products::multiply_brief(true, x, y, f);
     Short {
         value: q.low,
-        flags,
+        flags: q.flags,
     }
 }
 
@@ -73,58 +75,51 @@ fn shifted(op: u32, x: u32, n: u32, f: Brief) -> Short
     if n == 0 {
         return Short { value: x, flags: f };
     }
-    shifts::shift32(op, n, x, f)
+    shifts::shift_brief(op, n, x, f)
+}
+
+// What dwords and bytes have in common.
+#[tactic(auto, unfolding(crate::specs::Outcome::operated, alu::specs::Arithmetic::operation, alu::specs::Arithmetic::single))]
+fn operate_at<W: Word>(op: u32, x: W, y: W, f: Brief) -> Short
+    ensures { out_in result ≡ operated op (bits W.wide) (W.number x) (W.number y) (status_in f) }
+{
+    match op {
+        0 => brief::add(x, y, false),
+        1 => brief::logic(x | y, f),
+        2 => brief::add(x, y, brief::carry(f)),
+        3 => brief::sub(x, y, brief::carry(f)),
+        4 => brief::logic(x & y, f),
+        5 => brief::sub(x, y, false),
+        6 => brief::logic(x ^ y, f),
+        7 => brief::sub(x, y, false),
+        8 => brief::logic(x & y, f),
+        9 => Short {
+            value: y.number(),
+            flags: f,
+        },
+        10 => brief::keep_carry(f, brief::add(x, W::low(1), false)),
+        _ => brief::keep_carry(f, brief::sub(x, W::low(1), false)),
+    }
 }
 
 // The value and the flags, of dwords.
+#[tactic(auto, using(crate::proofs::Effects::in_common, crate::proofs::Effects::multiplied, crate::proofs::Effects::moved_by))]
 pub fn dwords(op: u32, x: u32, y: u32, f: Brief) -> Short
     ensures { out_in result ≡ out_of op true x y (status_in f) }
 {
     match op {
-        0 => alu::brief::add32(x, y, false),
-        1 => alu::brief::logic32(x | y, f),
-        2 => alu::brief::add32(x, y, alu::brief::carry(f)),
-        3 => alu::brief::sub32(x, y, alu::brief::carry(f)),
-        4 => alu::brief::logic32(x & y, f),
-        5 => alu::brief::sub32(x, y, false),
-        6 => alu::brief::logic32(x ^ y, f),
-        7 => alu::brief::sub32(x, y, false),
-        8 => alu::brief::logic32(x & y, f),
-        9 => Short { value: y, flags: f },
-        10 => alu::brief::keep_carry(f, alu::brief::add32(x, 1, false)),
-        11 => alu::brief::keep_carry(f, alu::brief::sub32(x, 1, false)),
+        0..=11 => operate_at(op, x, y, f),
         14 => times(x, y, f),
         _ => shifted(op % 8, x, y % 32, f),
     }
 }
 
-fn on_bytes(op: u32, x: u8, y: u8, f: Brief) -> Short
-    ensures { out_in result ≡ out_of op false x y (status_in f) }
-{
-    match op {
-        0 => alu::brief::add8(x, y, false),
-        1 => alu::brief::logic8(x | y, f),
-        2 => alu::brief::add8(x, y, alu::brief::carry(f)),
-        3 => alu::brief::sub8(x, y, alu::brief::carry(f)),
-        4 => alu::brief::logic8(x & y, f),
-        5 => alu::brief::sub8(x, y, false),
-        6 => alu::brief::logic8(x ^ y, f),
-        7 => alu::brief::sub8(x, y, false),
-        8 => alu::brief::logic8(x & y, f),
-        9 => Short {
-            value: y as u32,
-            flags: f,
-        },
-        10 => alu::brief::keep_carry(f, alu::brief::add8(x, 1, false)),
-        _ => alu::brief::keep_carry(f, alu::brief::sub8(x, 1, false)),
-    }
-}
-
 // The same of bytes.
+#[tactic(auto, using(crate::proofs::Effects::of_bytes))]
 pub fn bytes(op: u32, x: u32, y: u32, f: Brief) -> Short
     ensures { out_in result ≡ out_of op false x y (status_in f) }
 {
-    on_bytes(op, (x % 256) as u8, (y % 256) as u8, f)
+    operate_at(op, u8::low(x), u8::low(y), f)
 }
 
 fn put(e: &mut [u32], n: u32, x: u32)
@@ -182,7 +177,7 @@ pub fn deposit(e: &mut [u32], p: Fast, x: u32)
 pub fn double(e: &mut [u32], p: Fast, f: Brief) -> Brief
     ensures { (e.new ≡ (with_register (with_register (file e.old) 0 (doubled_in p e.old (status_in f)).low) 2 (doubled_in p e.old (status_in f)).high).e) × (status_in result ≡ (doubled_in p e.old (status_in f)).status) }
 {
-    let q = products::multiply32(false, register(e, 0), p.x, f);
+    let q = products::multiply_brief(false, register(e, 0), p.x, f);
     put(e, 0, q.low);
     put(e, 2, q.high);
     q.flags
