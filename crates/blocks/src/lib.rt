@@ -3,10 +3,10 @@
 #![tactic(auto)]
 
 ghost use Rattle.std.specs.Prelude.{◌≡◌, true, cond, ◌+◌, ◌%◌, ◌<◌, ◌≤◌, length, get_or, leb};
-ghost use Rattle.encoding.specs.Encodings.{Classed};
 ghost use Rattle.forms.specs.Forms.{Small};
 ghost use Rattle.blocks.specs.Blocks.{Digits, unpacked, Written, Keyed, Known, last};
 
+use encoding::Classes;
 use forms::Form;
 
 // The eight bytes at i in one number.
@@ -108,8 +108,8 @@ fn is_last(f: Form) -> bool
 }
 
 // Reads the block at i anew, up to its last form or what is no form.
-fn build(mem: &[u8], t: &[u8; 512], g: &mut [u64; 4096], s: usize, i: usize)
-    requires { (i + 64 ≤ length mem.now) × ((s + 32 ≤ 4096) × ((s % 32 ≡ 0) × ((Known g.old) × (Classed t.now)))) }
+fn build(mem: &[u8], t: &Classes, g: &mut [u64; 4096], s: usize, i: usize)
+    requires { (i + 64 ≤ length mem.now) × ((s + 32 ≤ 4096) × ((s % 32 ≡ 0) × (Known g.old))) }
     ensures { (Known g.new) × (Keyed mem.now i g.new s) }
 {
     begin(mem, g, s, i);
@@ -133,8 +133,8 @@ fn build(mem: &[u8], t: &[u8; 512], g: &mut [u64; 4096], s: usize, i: usize)
 }
 
 // The place of the block that begins at EIP; its bytes are at i.
-pub fn find(mem: &[u8], t: &[u8; 512], g: &mut [u64; 4096], eip: u32, i: usize) -> usize
-    requires { (i + 64 ≤ length mem.now) × ((Known g.old) × (Classed t.now)) }
+pub fn find(mem: &[u8], t: &Classes, g: &mut [u64; 4096], eip: u32, i: usize) -> usize
+    requires { (i + 64 ≤ length mem.now) × (Known g.old) }
     ensures { (result + 32 ≤ 4096) × ((result % 32 ≡ 0) × ((Known g.new) × (Keyed mem.now i g.new result))) }
 {
     let s = (eip % 128) as usize * 32;

@@ -3,12 +3,11 @@
 
 ghost use Rattle.std.specs.Prelude.{◌≡◌, ◌%◌, length};
 ghost use Rattle.machine.specs.Paging.{view};
-ghost use Rattle.encoding.specs.Encodings.{Classed};
 ghost use Rattle.fetch.specs.Read.{log_at};
 ghost use Rattle.decode.specs.Decode.{scale_of, index_of, displacement_bytes, displaced, after_sib, after_modrm, finish, with_modrm, with_offset, classed, decode};
 ghost use Rattle.decode.specs.Read.{shown, PrefixOk, OpcodeOk, formed_of, ready_of};
 
-use encoding::{Class, Instruction, Operand};
+use encoding::{Class, Classes, Instruction, Operand};
 use fetch::{Code, Fetched};
 use machine::{Control, Reply};
 
@@ -20,13 +19,12 @@ pub struct Formed {
 }
 
 // The first byte that is no override.
-fn prefixed(s: &Code, t: &[u8; 512]) -> Result<Fetched, Reply>
-    requires { Classed t.now }
+fn prefixed(s: &Code, t: &Classes) -> Result<Fetched, Reply>
     ensures { PrefixOk s.now result }
 {
     for n in 0..16 {
         let byte = s.byte(n)?;
-        match encoding::class_in(t, byte.value) {
+        match t.at(byte.value) {
             Class::Override => {}
             _ => return Ok(byte),
         }
@@ -35,12 +33,11 @@ fn prefixed(s: &Code, t: &[u8; 512]) -> Result<Fetched, Reply>
 }
 
 // The opcode: 256 and up after 0F.
-fn opcode(s: &Code, t: &[u8; 512]) -> Result<Fetched, Reply>
-    requires { Classed t.now }
+fn opcode(s: &Code, t: &Classes) -> Result<Fetched, Reply>
     ensures { OpcodeOk s.now result }
 {
     let first = prefixed(s, t)?;
-    match encoding::class_in(t, first.value) {
+    match t.at(first.value) {
         Class::Escape => {}
         _ => return Ok(first),
     }
@@ -225,12 +222,12 @@ fn classed(s: &Code, n: u32, c: Class, b: u32) -> Result<Instruction, Reply>
 }
 
 // The instruction at eip.
-pub fn decode(mem: &[u8], k: Control, t: &[u8; 512], eip: u32) -> Result<Instruction, Reply>
-    requires { (length mem.now % 4096 ≡ 0) × (Classed t.now) }
+pub fn decode(mem: &[u8], k: Control, t: &Classes, eip: u32) -> Result<Instruction, Reply>
+    requires { length mem.now % 4096 ≡ 0 }
     ensures { ready_of eip result ≡ decode eip (view mem.now k) (log_at eip 0) }
 {
     let s = Code::open(mem, k, eip);
     let b = opcode(&s, t)?;
-    let c = encoding::class_in(t, b.value);
+    let c = t.at(b.value);
     classed(&s, b.length, c, b.value)
 }

@@ -253,18 +253,25 @@ pub struct Instruction {
     pub length: u32,
 }
 
-// The table, for a caller who lends it on.
-pub fn classes() -> [u8; 512]
-    ensures { Classed result }
-{
-    opcodes::CLASSES
+// The table of an opcode's class by its number, as the list has it.
+pub struct Classes {
+    numbers: [u8; 512],
+    ghost classed: { Classed numbers },
 }
 
-pub fn class_in(t: &[u8; 512], n: u32) -> Class
-    requires { (Classed t.now) × (n < 512) }
-    ensures { result ≡ class_of n }
-{
-    Class::from(t[n as usize])
+impl Classes {
+    pub fn new() -> Classes {
+        Classes {
+            numbers: opcodes::CLASSES,
+        }
+    }
+
+    pub fn at(&self, n: u32) -> Class
+        requires { n < 512 }
+        ensures { result ≡ class_of n }
+    {
+        Class::from(self.numbers[n as usize])
+    }
 }
 
 pub fn has_modrm(c: Class) -> bool

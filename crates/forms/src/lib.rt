@@ -4,11 +4,11 @@
 ghost use Rattle.std.specs.Prelude.{◌≡◌, ◌≢◌, true, List, ℕ, ◌+◌, ◌/◌, ◌%◌, ◌<◌, ◌≤◌, length, IfSome, Some};
 ghost use Rattle.machine.specs.Record.{at, wrap};
 ghost use Rattle.encoding.specs.declared.Class.TheVariants.{ArithmeticGroup, LoadAddress};
-ghost use Rattle.encoding.specs.Encodings.{Classed, class_of};
+ghost use Rattle.encoding.specs.Encodings.{class_of};
 ghost use Rattle.shortcut.specs.Forms.{combines_to, combines_from, operation_of, spot_of, up_to};
 ghost use Rattle.forms.specs.Forms.{reg, ReadOk};
 
-use encoding::Class;
+use encoding::{Class, Classes};
 
 // The kind says what it is (specs/Forms, `meant`); the instruction has `length` bytes; a and b are registers; then an immediate, a displacement or
 // the distance of a jump.
@@ -300,13 +300,13 @@ fn plain(mem: &[u8], i: usize, c: Class, b: u32, m: u32) -> Option<Form>
 }
 
 // The form of the instruction at index i of memory, where sixteen bytes are there.
-pub fn read(mem: &[u8], t: &[u8; 512], i: usize) -> Option<Form>
-    requires { (i + 16 ≤ length mem.now) × (Classed t.now) }
+pub fn read(mem: &[u8], t: &Classes, i: usize) -> Option<Form>
+    requires { i + 16 ≤ length mem.now }
     ensures { IfSome result (λ f. ReadOk mem.now i f) }
 {
     let b = shortcut::bytes::byte(mem, i);
     let m = shortcut::bytes::byte(mem, i + 1);
-    let c = encoding::class_in(t, b);
+    let c = t.at(b);
     match c {
         Class::ArithmeticTo | Class::TestTo | Class::MoveTo => {
             to_operand(mem, i, c, shortcut::operation(c, b), b, m)

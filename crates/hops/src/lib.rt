@@ -6,7 +6,6 @@ ghost use Rattle.alu.specs.Brief.{status_in, out_in};
 ghost use Rattle.machine.specs.Record.{at};
 ghost use Rattle.machine.specs.Paging.{dword_at};
 ghost use Rattle.machine.specs.Commit.{patches};
-ghost use Rattle.encoding.specs.Encodings.{Classed};
 ghost use Rattle.keptpages.specs.Quiet.{HeldOk};
 ghost use Rattle.access.specs.Located.{placed};
 ghost use Rattle.outcome.specs.Outcome.{out_of, next_of};
@@ -14,6 +13,7 @@ ghost use Rattle.shortcut.specs.Shortcut.{Tidy};
 ghost use Rattle.hops.specs.Hops.{moves, keeps, saved, spotted, Holds, Reaches, Spared, Left, PagesOk, SwiftOk};
 ghost use Rattle.hops.specs.declared.Ending.TheVariants as ends;
 
+use encoding::Classes;
 use alu::brief::{Brief, Short};
 use keptpages::Kept;
 use machine::Control;
@@ -290,14 +290,14 @@ fn finish(
 // One quick step, on the page h.
 pub fn hop(
     mem: &mut [u8],
-    t: &[u8; 512],
+    t: &Classes,
     e: &mut [u32],
     d: &mut [u64],
     c: Control,
     r: Rest,
     h: Kept,
 ) -> Swift
-    requires { (length mem.old % 4096 ≡ 0) × ((Classed t.now) × ((PagesOk mem.old c h d.old) × ((r.eip / 4096 ≡ h.page) × ((r.eip % 4096 ≤ 4080) × (r.eip < 4294967296))))) }
+    requires { (length mem.old % 4096 ≡ 0) × ((PagesOk mem.old c h d.old) × ((r.eip / 4096 ≡ h.page) × ((r.eip % 4096 ≤ 4080) × (r.eip < 4294967296)))) }
     ensures { SwiftOk mem.old e.old c r h mem.new e.new d.new result }
 {
     let eip = r.eip;

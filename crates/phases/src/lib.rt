@@ -3,10 +3,10 @@
 
 ghost use Rattle.std.specs.Prelude.{◌≡◌, ◌%◌, length};
 ghost use Rattle.machine.specs.Run.{step};
-ghost use Rattle.encoding.specs.Encodings.{Classed};
 ghost use Rattle.phases.specs.Step.{micro32};
 ghost use Rattle.phases.specs.Planned.{PlanOk, left};
 
+use encoding::Classes;
 use access::Access;
 use machine::{Core, Cpu, Reply};
 
@@ -28,8 +28,8 @@ pub struct Planned {
 }
 
 // Looks at the instruction at EIP, phase by phase; memory is only read.
-fn plan(c: Cpu, mem: &[u8], t: &[u8; 512]) -> Result<Planned, Reply>
-    requires { (length mem.now % 4096 ≡ 0) × (Classed t.now) }
+fn plan(c: Cpu, mem: &[u8], t: &Classes) -> Result<Planned, Reply>
+    requires { length mem.now % 4096 ≡ 0 }
     ensures { PlanOk mem.now c result }
 {
     let k = c.control;
@@ -65,8 +65,7 @@ fn leave(mem: &mut [u8], p: Planned)
 }
 
 // One step, by a table of classes that the caller lends.
-pub fn advance(c: Cpu, mem: &mut [u8], t: &[u8; 512]) -> Stepped
-    requires { Classed t.now }
+pub fn advance(c: Cpu, mem: &mut [u8], t: &Classes) -> Stepped
     ensures { record { reply = result.reply; cpu = result.cpu; mem = mem.new } ≡ step micro32 mem.old c }
 {
     if !machine::sound(mem.len(), c) {

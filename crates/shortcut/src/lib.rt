@@ -8,7 +8,7 @@ mod modrm;
 ghost use Rattle.std.specs.Prelude.{◌≡◌, ◌+◌, ◌%◌, ◌<◌, ◌≤◌, true, false, ◌||◌, length, if◌then◌else◌, ◌==◌};
 ghost use Rattle.machine.specs.Record.{at, wrap};
 ghost use Rattle.conditions.specs.Conditions.{holds};
-ghost use Rattle.encoding.specs.Encodings.{Classed, class_of};
+ghost use Rattle.encoding.specs.Encodings.{class_of};
 ghost use Rattle.fetch.specs.Fetch.{signed};
 ghost use Rattle.alu.specs.declared.Status.{Status};
 ghost use Rattle.alu.specs.Brief.{status_in};
@@ -16,7 +16,7 @@ ghost use Rattle.shortcut.specs.Shortcut.{FastOk};
 ghost use Rattle.shortcut.specs.Forms.{combines, is_group, by_immediate, register_fast, accumulator_fast, count_fast, jump_fast, push_fast, pop_fast, operation_of};
 
 use alu::brief::Brief;
-use encoding::Class;
+use encoding::{Class, Classes};
 use outcome::Fast;
 
 // Not taken.
@@ -272,13 +272,13 @@ fn plain(mem: &[u8], e: &[u32], s: Brief, eip: u32, i: usize, c: Class, b: u32, 
 }
 
 // The instruction at index i of memory, where sixteen bytes are there.
-pub fn quick(mem: &[u8], t: &[u8; 512], e: &[u32], s: Brief, eip: u32, i: usize) -> Fast
-    requires { (i + 16 ≤ length mem.now) × (Classed t.now) }
+pub fn quick(mem: &[u8], t: &Classes, e: &[u32], s: Brief, eip: u32, i: usize) -> Fast
+    requires { i + 16 ≤ length mem.now }
     ensures { FastOk mem.now e.now (status_in s) eip i result }
 {
     let b = bytes::byte(mem, i);
     let m = bytes::byte(mem, i + 1);
-    let c = encoding::class_in(t, b);
+    let c = t.at(b);
     match c {
         Class::ArithmeticTo | Class::TestTo | Class::MoveTo => {
             modrm::to_operand(mem, e, eip, i, operation(c, b), b, m)

@@ -2,12 +2,12 @@
 #![tactic(auto)]
 
 ghost use Rattle.std.specs.Prelude.{◌≡◌, true, cond, ◌%◌, ◌≤◌, length, ltb};
-ghost use Rattle.encoding.specs.Encodings.{Classed};
 ghost use Rattle.blocks.specs.Blocks.{Known};
 ghost use Rattle.hops.specs.Hops.{PagesOk};
 ghost use Rattle.hops.specs.declared.Ending.TheVariants as ends;
 ghost use Rattle.sprints.specs.Sprints.{Before, TracedOk};
 
+use encoding::Classes;
 use hops::{Ending, Rest};
 use keptpages::Kept;
 use machine::Control;
@@ -83,7 +83,7 @@ fn trace(
 // Blocks on the page h, as many as there can be and at most so many instructions.
 pub fn sprint(
     mem: &mut [u8],
-    t: &[u8; 512],
+    t: &Classes,
     e: &mut [u32; 8],
     d: &[u64; 32],
     g: &mut [u64; 4096],
@@ -92,7 +92,7 @@ pub fn sprint(
     h: Kept,
     limit: u32,
 ) -> Traced
-    requires { (length mem.old % 4096 ≡ 0) × ((Classed t.now) × ((PagesOk mem.old c h d.now) × (Known g.old))) }
+    requires { (length mem.old % 4096 ≡ 0) × ((PagesOk mem.old c h d.now) × (Known g.old)) }
     ensures { (result.count ≤ limit) × ((TracedOk mem.old e.old c from h d.now mem.new e.new result) × (Known g.new)) }
 {
     let mut n: u32 = 0;

@@ -5,12 +5,12 @@
 ghost use Rattle.std.specs.Prelude.{◌≡◌, true, ◌/◌, ◌%◌, ◌≤◌, length, IfSome};
 ghost use Rattle.alu.specs.Brief.{status_in, tellable};
 ghost use Rattle.machine.specs.Record.{flags_in};
-ghost use Rattle.encoding.specs.Encodings.{Classed};
 ghost use Rattle.keptpages.specs.Quiet.{HeldOk};
 ghost use Rattle.blocks.specs.Blocks.{Known};
 ghost use Rattle.hops.specs.Hops.{PagesOk, current, RushOk};
 ghost use Rattle.swift.specs.Swift.{DashOk};
 
+use encoding::Classes;
 use alu::Status;
 use hops::Rest;
 use keptpages::Kept;
@@ -64,7 +64,7 @@ fn page_for(
 // Quick steps, as many as there can be and at most so many: blocks while there are, then one step of its own.
 fn rush(
     mem: &mut [u8],
-    t: &[u8; 512],
+    t: &Classes,
     e: &mut [u32; 8],
     d: &mut [u64; 32],
     g: &mut [u64; 4096],
@@ -72,7 +72,7 @@ fn rush(
     from: Rest,
     limit: u32,
 ) -> Rushed
-    requires { (length mem.old % 4096 ≡ 0) × ((Classed t.now) × (Known g.old)) }
+    requires { (length mem.old % 4096 ≡ 0) × (Known g.old) }
     ensures { (result.count ≤ limit) × ((RushOk mem.old e.old c from result.count mem.new e.new result.rest) × (Known g.new)) }
 {
     let mut n: u32 = 0;
@@ -143,12 +143,12 @@ fn joined(c: Cpu, e: [u32; 8], r: Rest) -> Cpu
 fn dash_on(
     c: Cpu,
     mem: &mut [u8],
-    t: &[u8; 512],
+    t: &Classes,
     g: &mut [u64; 4096],
     s: Status,
     limit: u32,
 ) -> Dashed
-    requires { (length mem.old % 4096 ≡ 0) × ((Classed t.now) × ((Known g.old) × ((tellable s ≡ true) × (s ≡ (flags_in c.eflags).status)))) }
+    requires { (length mem.old % 4096 ≡ 0) × ((Known g.old) × ((tellable s ≡ true) × (s ≡ (flags_in c.eflags).status))) }
     ensures { (result.count ≤ limit) × ((DashOk mem.old c result.count mem.new result.cpu) × (Known g.new)) }
 {
     let k = c.control;
@@ -166,8 +166,8 @@ fn dash_on(
 }
 
 // Quick steps from a record on, at most so many.
-pub fn dash(c: Cpu, mem: &mut [u8], t: &[u8; 512], g: &mut [u64; 4096], limit: u32) -> Dashed
-    requires { (length mem.old % 4096 ≡ 0) × ((Classed t.now) × (Known g.old)) }
+pub fn dash(c: Cpu, mem: &mut [u8], t: &Classes, g: &mut [u64; 4096], limit: u32) -> Dashed
+    requires { (length mem.old % 4096 ≡ 0) × (Known g.old) }
     ensures { (result.count ≤ limit) × ((DashOk mem.old c result.count mem.new result.cpu) × (Known g.new)) }
 {
     let u = Flags::from(c.eflags);

@@ -14,15 +14,15 @@ class_in-requires c = (c.requires, omega (arith, c.in_ok-first.ensures.small))
 
 pub returns-in_default : goal.returns-in_default
 unfolding opcode escaped
-returns-in_default c = record { does = rw (got c.args.s.now.eip c.in_ok-first.ensures.does, ← c.class_in.ensures, no_escape _ c.in_default.not-Escape); small = omega (arith, c.in_ok-first.ensures.small) }
+returns-in_default c = record { does = rw (got c.args.s.now.eip c.in_ok-first.ensures.does, ← c.at.ensures, no_escape _ c.in_default.not-Escape); small = omega (arith, c.in_ok-first.ensures.small) }
 
 pub returns-in_err-second : goal.returns-in_err-second
 unfolding opcode escaped
-returns-in_err-second c = let p = err_from_is_err_and c.from_residual-in_err-second.result c.from_residual-in_err-second.ensures.1 in rw (p.1, p.2) (record { does = rw (got c.args.s.now.eip c.in_ok-first.ensures.does, ← c.class_in.ensures, c.in-Escape.is, missed c.args.s.now.eip c.in_err-second.ensures.does); small = tt })
+returns-in_err-second c = let p = err_from_is_err_and c.from_residual-in_err-second.result c.from_residual-in_err-second.ensures.1 in rw (p.1, p.2) (record { does = rw (got c.args.s.now.eip c.in_ok-first.ensures.does, ← c.at.ensures, c.in-Escape.is, missed c.args.s.now.eip c.in_err-second.ensures.does); small = tt })
 
 pub overflow_add-result : goal.overflow_add-result
 overflow_add-result c = omega (arith, c.in_ok-second.ensures.small.0)
 
 pub returns : goal.returns
 unfolding opcode escaped
-returns c = record { does = rw (got c.args.s.now.eip c.in_ok-first.ensures.does, ← c.class_in.ensures, c.in-Escape.is, got c.args.s.now.eip c.in_ok-second.ensures.does); small = omega (arith, c.in_ok-second.ensures.small.0) }
+returns c = record { does = rw (got c.args.s.now.eip c.in_ok-first.ensures.does, ← c.at.ensures, c.in-Escape.is, got c.args.s.now.eip c.in_ok-second.ensures.does); small = omega (arith, c.in_ok-second.ensures.small.0) }

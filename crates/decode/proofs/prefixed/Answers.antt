@@ -12,12 +12,12 @@ returns-in_err-byte c =
 
 pub returns-in_default : goal.returns-in_default
 returns-in_default c = record {
-  does = sym (c.loop-n.invariant ∙ override_off _ _ _ _ _ _ c.loop-n-test.true (got _ c.in_ok-byte.ensures.does) (ap is_override (sym c.class_in.ensures) ∙ no_override _ c.in_default.not-Override));
+  does = sym (c.loop-n.invariant ∙ override_off _ _ _ _ _ _ c.loop-n-test.true (got _ c.in_ok-byte.ensures.does) (ap is_override (sym c.at.ensures) ∙ no_override _ c.in_default.not-Override));
   small = c.in_ok-byte.ensures.small.0;
 }
 
 pub loop-n-preserved : goal.loop-n-preserved
-loop-n-preserved c = c.loop-n.invariant ∙ override_on _ _ _ _ _ _ c.loop-n-test.true (got _ c.in_ok-byte.ensures.does) c.in_ok-byte.ensures.small.1 (ap is_override (sym c.class_in.ensures ∙ c.in-Override.is))
+loop-n-preserved c = c.loop-n.invariant ∙ override_on _ _ _ _ _ _ c.loop-n-test.true (got _ c.in_ok-byte.ensures.does) c.in_ok-byte.ensures.small.1 (ap is_override (sym c.at.ensures ∙ c.in-Override.is))
 
 pub returns : goal.returns
 returns c = record { does = sym (c.loop-n.invariant ∙ override_end _ _ _ _ c.loop-n-test.false); small = tt }
