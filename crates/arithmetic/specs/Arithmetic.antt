@@ -1,6 +1,6 @@
 -- Operations of two operands and of one, shifts, multiplication and division.
 -- Assumes nothing.
-use Rattle.std.specs.Prelude.{ℕ, Bool, true, cond, ltb, eqb}
+use Rattle.std.specs.Prelude.{ℕ, Bool, true, cond, ltb, eqb, Option, Some, None}
 use Rattle.machine.specs.declared.Registers.{Registers}
 use Rattle.machine.specs.declared.Core.{Core}
 use Rattle.machine.specs.declared.Reply.TheVariants.{Fault}
@@ -11,8 +11,7 @@ use Rattle.operands.specs.declared.Effect.{Effect}
 use Rattle.alu.specs.Arithmetic.{operate, operate_one, writes}
 use Rattle.shifts.specs.Shifts.{shift}
 use Rattle.products.specs.declared.Product.{Product}
-use Rattle.products.specs.declared.Quotient.{Quotient}
-use Rattle.products.specs.declared.Quotient.TheVariants.{Refused, Divided}
+use Rattle.products.specs.declared.Division.{Division}
 use Rattle.products.specs.Products.{product, quotient}
 use Rattle.operands.specs.Operands.{operand_value, deposit, refused, onward, advanced}
 
@@ -70,9 +69,9 @@ unfoldable pub do_multiply : Instruction → Core → ℕ → Effect
 do_multiply i k x = multiplied i k (product (eqb i.operation 5) i.wide (read_at i.wide k.regs 0) x k.flags.status)
 
 -- all six flags are kept
-abbrev pub divided : Instruction → Core → Quotient → Effect
-divided i k Refused = refused k (Fault 0 0 0)
-divided i k (Divided q r) = onward i k (pair i.wide k.regs q r)
+abbrev pub divided : Instruction → Core → Option Division → Effect
+divided i k None = refused k (Fault 0 0 0)
+divided i k (Some d) = onward i k (pair i.wide k.regs d.quotient d.remainder)
 
 -- DIV 6, IDIV 7
 unfoldable pub do_divide : Instruction → Core → ℕ → Effect

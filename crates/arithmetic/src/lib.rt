@@ -8,7 +8,7 @@ use alu::Out;
 use encoding::Instruction;
 use machine::{Core, Registers, Reply};
 use operands::Effect;
-use products::{Product, Quotient};
+use products::Product;
 
 // The result is put into the operand.
 fn deposited(i: Instruction, k: Core, o: Out) -> Effect
@@ -119,6 +119,7 @@ fn multiply(i: Instruction, k: Core, x: u32) -> Effect
     operands::advanced(i, k, pair(i.wide, r, p.low, p.high), t, 0)
 }
 
+#[tactic(auto, unfolding(crate::specs::Arithmetic::do_divide))]
 fn divide(i: Instruction, k: Core, x: u32) -> Effect
     ensures { result ≡ do_divide i k x }
 {
@@ -126,10 +127,10 @@ fn divide(i: Instruction, k: Core, x: u32) -> Effect
     let high = r.read_at(i.wide, upper(i.wide));
     let low = r.read_at(i.wide, 0);
     let q = products::divide(i.operation == 7, i.wide, high, low, x);
-    let Quotient::Divided(whole, rest) = q else {
+    let Some(d) = q else {
         return operands::refused(k, Reply::Fault(0, 0, 0));
     };
-    operands::onward(i, k, pair(i.wide, r, whole, rest))
+    operands::onward(i, k, pair(i.wide, r, d.quotient, d.remainder))
 }
 
 pub fn accumulate(i: Instruction, k: Core, a: u32) -> Effect
