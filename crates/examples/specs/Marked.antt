@@ -1,13 +1,12 @@
 -- The marked examples of document 01, in its order: each line asks the step's own definitions and gives the answer that is printed.
 -- Assumes nothing.
-use Rattle.std.specs.Prelude.{ℕ, ◌+◌, ◌-◌, ◌/◌, ◌%◌, Bool, true, false, ◌&&◌, List, [], ◌∷◌, set, replicate, eqb}
+use Rattle.std.specs.Prelude.{ℕ, ◌+◌, ◌-◌, ◌/◌, ◌%◌, Bool, true, false, ◌&&◌, List, [], ◌∷◌, set, replicate, eqb, Option, Some, None}
 use Rattle.alu.specs.declared.Status.{Status}
 use Rattle.alu.specs.declared.Out.{Out}
 use Rattle.alu.specs.Arithmetic.{bit, operate, operate_one, mov}
 use Rattle.shifts.specs.Shifts.{shift}
-use Rattle.products.specs.declared.Quotient.{Quotient}
-use Rattle.products.specs.declared.Quotient.TheVariants.{Refused, Divided}
-use Rattle.products.specs.Products.{quotient}
+use Rattle.products.specs.declared.Division.{Division}
+use Rattle.products.specs.Products.{divided, quotient}
 use Rattle.encoding.specs.declared.Family.TheVariants.{CombineFrom}
 use Rattle.encoding.specs.declared.Operand.{Operand}
 use Rattle.encoding.specs.declared.Instruction.{Instruction}
@@ -41,11 +40,11 @@ pub data Walked : Type 0 where
   reaches : ℕ → List Placed → Walked
   ends : Reply → Walked
 
--- an operation with its value and flags, or a division with its answer, where Refused is Fault 0; bytes with the instruction that they
+-- an operation with its value and flags, or a division with its answer, where None is Fault 0; bytes with the instruction that they
 -- are; with CR3 and entries in memory, a user's access with its end
 pub data Example : Type 0 where
   operation : Out → ℕ → List Printed → Example
-  division : Quotient → Quotient → Example
+  division : Option Division → Option Division → Example
   encoding : List ℕ → Instruction → Example
   walk : ℕ → List Placed → Touch → Walked → Example
 
@@ -69,11 +68,11 @@ abbrev pub shows : Status → List Printed → Bool
 shows s [] = true
 shows s ((f is n) ∷ ps) = eqb (bit (state s f)) n && shows s ps
 
-abbrev pub same_quotient : Quotient → Quotient → Bool
-same_quotient Refused Refused = true
-same_quotient Refused (Divided q r) = false
-same_quotient (Divided q r) Refused = false
-same_quotient (Divided q r) (Divided q' r') = eqb q q' && eqb r r'
+abbrev pub same_quotient : Option Division → Option Division → Bool
+same_quotient None None = true
+same_quotient None (Some d) = false
+same_quotient (Some d) None = false
+same_quotient (Some d) (Some e) = eqb d.quotient e.quotient && eqb d.remainder e.remainder
 
 abbrev pub fields : Instruction → List ℕ
 fields i =
@@ -153,7 +152,7 @@ abbrev pub SHL : ℕ → ℕ → Status → Out
 SHL v count s = shift 4 true count v s
 
 -- EDX:EAX by a divisor
-abbrev pub IDIV : ℕ → ℕ → ℕ → Quotient
+abbrev pub IDIV : ℕ → ℕ → ℕ → Option Division
 IDIV = quotient true true
 
 -- the dword of -n
@@ -194,8 +193,8 @@ examples =
     ∷ operation (NEG 0x80000000 clear) 0x80000000 (CF is 1 ∷ OF is 1 ∷ AF is 0 ∷ [])
     ∷ operation (DEC 0x80000000 clear) 0x7fffffff (OF is 1 ∷ [])
     ∷ operation (SHL 0x80000001 1 clear) 2 (CF is 1 ∷ OF is 1 ∷ [])
-    ∷ division (IDIV (minus 1) (minus 7) 2) (Divided (minus 3) (minus 1))
-    ∷ division (IDIV 0xffffffff 0x80000000 (minus 1)) Refused
+    ∷ division (IDIV (minus 1) (minus 7) 2) (divided (minus 3) (minus 1))
+    ∷ division (IDIV 0xffffffff 0x80000000 (minus 1)) None
     ∷ encoding (0x8b ∷ 0x44 ∷ 0xb3 ∷ 0x08 ∷ []) (MOV EAX (in_memory EBX ESI 4 8) 4)
     ∷ encoding (0x8b ∷ 0x04 ∷ 0x75 ∷ 0x00 ∷ 0x10 ∷ 0x00 ∷ 0x00 ∷ []) (MOV EAX (in_memory no_base ESI 2 0x1000) 7)
     ∷ walk 0x1000 (0x2007 lies-at 0x1004 ∷ 0x5005 lies-at 0x200c ∷ []) (read 0x403a10)

@@ -1,10 +1,10 @@
 -- What comes of an operation on dwords, by its number, and of a result that is or is not written.
 -- Assumes nothing.
-use Rattle.std.proofs.Common.{◌≡◌, ℕ, ◌%◌, ◌<◌, ◌≤◌, Bool, true, false, cond, eqb, ltb, ◌≢◌, refl, arith, w32, Fits, ltb-false, ne_eqb, le-ltb}
+use Rattle.std.proofs.Common.{◌≡◌, ℕ, ◌%◌, ◌^◌, ◌<◌, ◌≤◌, Bool, true, false, cond, eqb, ltb, ◌≢◌, refl, arith, w32, Fits, ltb-false, ne_eqb, le-ltb}
 use Rattle.std.proofs.lemmas.Bool.{eqb-false}
 use Rattle.alu.specs.declared.Status.{Status}
 use Rattle.alu.specs.declared.Out.{Out}
-use Rattle.alu.specs.Arithmetic.{low, operate, operate_one}
+use Rattle.alu.specs.Arithmetic.{bits, low, operation, operate, operate_one}
 use Rattle.alu.proofs.Words.{low_number}
 use Rattle.shifts.specs.Shifts.{times, shift_status, shift_left, shift_right, shift_right_signed, shifted, shift}
 use Rattle.products.specs.Products.{product}
@@ -12,6 +12,20 @@ use Rattle.outcome.specs.Outcome.{low_out, operated, out_of}
 
 whole : (x : ℕ) → Fits w32 x → low true x ≡ x
 whole x h = low_number true (refl, omega arith)
+
+-- an operation of two operands, up to MOV, where op is the number k
+numbered_at : (wide : Bool) (x y : ℕ) (s : Status) {op k : ℕ} {r : Out} → x < 2 ^ bits wide → y < 2 ^ bits wide → op ≡ k → ltb k 10 ≡ true
+    → r ≡ operation k (bits wide) x y s → r ≡ out_of op wide x y s
+unfolding out_of operate
+numbered_at wide x y s hx hy h l e = rw (h, l, low_number wide (refl, hx), low_number wide (refl, hy)) e
+
+pub numbered : (x y : ℕ) (s : Status) → Fits w32 x → {op k : ℕ} {r : Out} → Fits w32 y → op ≡ k → ltb k 10 ≡ true → r ≡ operation k 32 x y s
+    → r ≡ out_of op true x y s
+numbered x y s hx hy = numbered_at true x y s (omega arith) (omega arith)
+
+pub byte_numbered : (x y : ℕ) (s : Status) → x < 256 → y < 256 → {op k : ℕ} {r : Out} → op ≡ k → ltb k 10 ≡ true → r ≡ operation k 8 x y s
+    → r ≡ out_of op false x y s
+byte_numbered x y s hx hy = numbered_at false x y s hx hy
 
 module _ (x y : ℕ) (s : Status) (hx : Fits w32 x) where
   -- what dwords have in common with bytes
