@@ -9,9 +9,6 @@ pub returns-in_err-first : goal.returns-in_err-first
 unfolding opcode escaped
 returns-in_err-first c = let p = err_from_is_err_and c.from_residual.result c.from_residual.ensures.1 in rw (p.1, p.2) (record { does = rw (missed c.args.s.now.eip c.in_err-first.ensures.does); small = tt })
 
-pub class_in-requires : goal.class_in-requires
-class_in-requires c = (c.requires, omega (arith, c.in_ok-first.ensures.small))
-
 pub returns-in_default : goal.returns-in_default
 unfolding opcode escaped
 returns-in_default c = record { does = rw (got c.args.s.now.eip c.in_ok-first.ensures.does, ← c.at.ensures, no_escape _ c.in_default.not-Escape); small = omega (arith, c.in_ok-first.ensures.small) }

@@ -6,7 +6,7 @@ pub returns-then-not-sound : goal.returns-then-not-sound
 returns-then-not-sound c = step_bad _ c.args.c (sym c.if-not-sound.ensures)
 
 pub plan-requires : goal.plan-requires
-plan-requires c = (sound_size _ c.args.c (sym c.if-not-sound.ensures), c.requires)
+plan-requires c = sound_size _ c.args.c (sym c.if-not-sound.ensures)
 
 pub returns-in-Err : goal.returns-in-Err
 returns-in-Err c = step_off c.args.mem.now c.args.c (sym c.if-not-sound.ensures) _ c.in-Err.ensures
