@@ -9,29 +9,34 @@ use Rattle.machine.specs.Record.{Mem, at, wrap}
 use Rattle.machine.specs.Paging.{At, No, view, translate, dword_at}
 use Rattle.machine.specs.Commit.{Patch, Touch, patches, touched, marks, written, stored}
 use Rattle.machine.specs.Act.{Log, ok, refuse, byte, dword, load, access, noting, touch, bytes, stores_of}
-use Rattle.paging.specs.declared.Marks.{Marks}
-use Rattle.paging.specs.declared.Marks.TheVariants.{None}
+use Rattle.std.specs.Prelude.{Option, None, Result, Ok, Err, MatchResult}
+use Rattle.paging.specs.declared.Entries.{Entries}
 use Rattle.paging.specs.declared.Physical.{Physical}
-use Rattle.paging.specs.declared.Translated.{Translated}
-use Rattle.paging.specs.declared.Translated.TheVariants.{Reached, Denied}
-use Rattle.paging.specs.Walked.{Walked, patches_of, marks_in, translation_of}
+use Rattle.paging.specs.declared.Reached.{Reached}
+use Rattle.paging.specs.Walked.{Walked, patches_of, marks_in}
 use Rattle.paging.proofs.Pages.{same_page}
 use Rattle.access.specs.declared.Trail.{Trail}
 use Rattle.access.specs.declared.Place.{Place}
 use Rattle.access.specs.declared.Place.TheVariants.{Byte, Near, Across}
-use Rattle.access.specs.Located.{asked, span, trail_marks, put_byte, placed, puts, Held, TrailOk, refusal_of, nowhere}
+use Rattle.access.specs.Located.{asked, span, trail_marks, put_byte, placed, puts, Held, TrailOk, nowhere}
 use Rattle.access.proofs.Marks.{patches_append, touched_one, span_marks, page_marks}
 
--- ---- a translation that the code made, at the address and in the case at hand
+-- ---- a translation that the code made, at the address at hand
 
-pub walked_at : {m : Mem} {c : Control} {w : Bool} {a b : ℕ} {t u : Translated} → a ≡ b → t ≡ u → Walked m c w a t → Walked m c w b u
-walked_at e f h = rw (← e, ← f) h
+pub walked_at : {m : Mem} {c : Control} {w : Bool} {a b : ℕ} {t : Result Reached Reply} → a ≡ b → Walked m c w a t → Walked m c w b t
+walked_at e h = rw (← e) h
 
-pub found_at : {m : Mem} {c : Control} {w : Bool} {a b : ℕ} {p : Physical} {k : Marks} {t : Translated} → a ≡ b → t ≡ Reached p k → Walked m c w a t → translate m c w b ≡ At p.0
-found_at e f h = sym (walked_at e f h).reached
+pub found : {m : Mem} {c : Control} {w : Bool} {a : ℕ} {t : Reached} → Walked m c w a (Ok t) → translate m c w a ≡ At t.place.0
+found h = sym h.reached
 
-pub denied_at : {m : Mem} {c : Control} {w : Bool} {a b : ℕ} {t : Translated} {q r : Reply} → a ≡ b → t ≡ Denied q → r ≡ refusal_of t → Walked m c w a t → translate m c w b ≡ No r
-denied_at {t = t} {r = r} e f g h = let k : translation_of t ≡ No r = rw f (ap No (rw f at (sym g))) in rw (← e) (sym h.reached ∙ k)
+pub denied : {m : Mem} {c : Control} {w : Bool} {a : ℕ} {q : Reply} → Walked m c w a (Err q) → translate m c w a ≡ No q
+denied h = sym h.reached
+
+-- the marks of a translation: none where it was refused
+pub marks_at : (t : Result Reached Reply) (k : Option Entries) → MatchResult t (λ (x : Reached). k ≡ x.entries) (λ _. k ≡ None) → patches_of false k ≡ marks_in false t
+unfolding patches_of
+marks_at (Ok x) k e = ap (patches_of false) e
+marks_at (Err q) k e = ap (patches_of false) e
 
 -- ---- refusals
 
@@ -66,11 +71,11 @@ module _ (m : Mem) (c : Control) (w : Bool) (l : ℕ) where
 
 -- ---- the marks of a trail
 
-one_page : (w : Bool) (k : Marks) (ps : List Patch) → patches_of w k ≡ ps → (x : Mem) → patches ps x ≡ patches (trail_marks w (record { first = k; last = None })) x
+one_page : (w : Bool) (k : Option Entries) (ps : List Patch) → patches_of w k ≡ ps → (x : Mem) → patches ps x ≡ patches (trail_marks w (record { first = k; last = None })) x
 unfolding trail_marks patches_of
 one_page w k ps h x = ap (λ (z : List Patch). patches z x) (sym h ∙ sym (append-nil (patches_of w k)))
 
-two_pages : (w : Bool) (k j : Marks) (ps qs : List Patch) → patches_of w k ≡ ps → patches_of w j ≡ qs → (x : Mem)
+two_pages : (w : Bool) (k j : Option Entries) (ps qs : List Patch) → patches_of w k ≡ ps → patches_of w j ≡ qs → (x : Mem)
     → patches qs (patches ps x) ≡ patches (trail_marks w (record { first = k; last = j })) x
 unfolding trail_marks
 two_pages w k j ps qs h h' x = (λ i. patches (sym h' i) (patches (sym h i) x)) ∙ sym (patches_append (patches_of w k) (patches_of w j) x)
@@ -133,7 +138,7 @@ module _ (m : Mem) (c : Control) (w : Bool) (l : ℕ) (small : l < 4294967296) w
   unfolding dword byte view
   four_do v p0 p1 p2 p3 e f g = rw (f.t0, f.t1, f.t2, f.t3, four_touches, e) (simp append_assoc)
 
-  pub byte_held : (v : ℕ) (p : Physical) (k : Marks) → v ≡ at m p.0 → Walked m c w l (Reached p k)
+  pub byte_held : (v : ℕ) (p : Physical) (k : Option Entries) → v ≡ at m p.0 → Walked m c w l (Ok (record { place = p; entries = k }))
       → Held m c (asked w false l) (record { place = Byte p; value = v; write = w; trail = record { first = k; last = None } })
   byte_held v p k e h =
       asked_held m c w false l (Byte p) v (record { first = k; last = None }) (byte_does v p.0 e (sym h.reached))
@@ -141,7 +146,7 @@ module _ (m : Mem) (c : Control) (w : Bool) (l : ℕ) (small : l < 4294967296) w
       (put_byte_lem m c w l p (sym h.reached))
 
   module _ (size : length m % 4096 ≡ 0) where
-    pub near_held : (v : ℕ) (p : Physical) (k : Marks) → l % 4096 ≤ 4092 → v ≡ dword_at m p.0 → Walked m c w l (Reached p k)
+    pub near_held : (v : ℕ) (p : Physical) (k : Option Entries) → l % 4096 ≤ 4092 → v ≡ dword_at m p.0 → Walked m c w l (Ok (record { place = p; entries = k }))
         → Held m c (asked w true l) (record { place = Near p; value = v; write = w; trail = record { first = k; last = None } })
     unfolding placed
     near_held v p k fits e h =
@@ -158,8 +163,8 @@ module _ (m : Mem) (c : Control) (w : Bool) (l : ℕ) (small : l < 4294967296) w
         asked_held m c w true l (Near p) v (record { first = k; last = None }) (four_do v _ _ _ _ e f)
         (λ x. page_marks m size c w l small 3 (omega arith) x ∙ one_page w k _ h.marked x) (put_four m c w l _ _ _ _ f)
 
-    pub across_held : (v : ℕ) (p0 p1 p2 p3 : Physical) (k k1 k2 j : Marks) → v ≡ at m p0.0 + 256 * at m p1.0 + 65536 * at m p2.0 + 16777216 * at m p3.0
-        → Walked m c w l (Reached p0 k) → Walked m c w (wrap (l + 1)) (Reached p1 k1) → Walked m c w (wrap (l + 2)) (Reached p2 k2) → Walked m c w (wrap (l + 3)) (Reached p3 j)
+    pub across_held : (v : ℕ) (p0 p1 p2 p3 : Physical) (k k1 k2 j : Option Entries) → v ≡ at m p0.0 + 256 * at m p1.0 + 65536 * at m p2.0 + 16777216 * at m p3.0
+        → Walked m c w l (Ok (record { place = p0; entries = k })) → Walked m c w (wrap (l + 1)) (Ok (record { place = p1; entries = k1 })) → Walked m c w (wrap (l + 2)) (Ok (record { place = p2; entries = k2 })) → Walked m c w (wrap (l + 3)) (Ok (record { place = p3; entries = j }))
         → Held m c (asked w true l) (record { place = Across p0 p1 p2 p3; value = v; write = w; trail = record { first = k; last = j } })
     unfolding placed
     across_held v p0 p1 p2 p3 k k1 k2 j e h0 h1 h2 h3 =
@@ -170,12 +175,12 @@ module _ (m : Mem) (c : Control) (w : Bool) (l : ℕ) (small : l < 4294967296) w
 -- ---- the instruction's bytes
 
 module _ (m : Mem) (size : length m % 4096 ≡ 0) (c : Control) (eip : ℕ) (small : eip < 4294967296) where
-  pub trail_one : (n : ℕ) (t : Translated) (k : Marks) → 0 < n → n < 16 → eip % 4096 + n ≤ 4096 → Walked m c false eip t → patches_of false k ≡ marks_in false t
+  pub trail_one : (n : ℕ) (t : Result Reached Reply) (k : Option Entries) → 0 < n → n < 16 → eip % 4096 + n ≤ 4096 → Walked m c false eip t → patches_of false k ≡ marks_in false t
       → TrailOk m c eip n (record { first = k; last = None })
   trail_one zero t k pos few fits h e x = absurd (omega arith)
   trail_one (suc n) t k pos few fits h e x = page_marks m size c false eip small n (omega arith) x ∙ one_page false k _ (e ∙ h.marked) x
 
-  pub trail_two : (n b : ℕ) (t u : Translated) (k j : Marks) → 0 < n → n < 16 → b ≡ wrap (eip + (n - 1)) → Walked m c false eip t → patches_of false k ≡ marks_in false t
+  pub trail_two : (n b : ℕ) (t u : Result Reached Reply) (k j : Option Entries) → 0 < n → n < 16 → b ≡ wrap (eip + (n - 1)) → Walked m c false eip t → patches_of false k ≡ marks_in false t
       → Walked m c false b u → patches_of false j ≡ marks_in false u → TrailOk m c eip n (record { first = k; last = j })
   trail_two zero b t u k j pos few q h e h' e' x = absurd (omega arith)
   trail_two (suc n) b t u k j pos few q h e h' e' x =

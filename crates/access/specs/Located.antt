@@ -1,25 +1,19 @@
 -- An access that was found, and what is left of it in memory.
 -- Assumes nothing.
-use Rattle.std.specs.Prelude.{◌≡◌, ℕ, zero, suc, ◌+◌, ◌/◌, ◌%◌, Bool, true, false, cond, List, [], ◌∷◌, ◌++◌}
+use Rattle.std.specs.Prelude.{◌≡◌, ℕ, zero, suc, ◌+◌, ◌/◌, ◌%◌, Bool, true, false, cond, List, [], ◌∷◌, ◌++◌, None, Result, Ok, Err}
 use Rattle.machine.specs.Record.{Mem, wrap}
 use Rattle.machine.specs.declared.Control.{Control}
 use Rattle.machine.specs.declared.Reply.{Reply}
-use Rattle.machine.specs.declared.Reply.TheVariants.{Done}
 use Rattle.machine.specs.declared.Want.{Want}
 use Rattle.machine.specs.declared.Want.TheVariants.{Nothing, Read, Write}
 use Rattle.machine.specs.Paging.{view}
 use Rattle.machine.specs.Commit.{Patch, Touch, patches, touched, written}
 use Rattle.machine.specs.Act.{Log, ok, refuse, access, noting, touch, stores_of}
-use Rattle.paging.specs.declared.Marks.TheVariants.{None}
-use Rattle.paging.specs.declared.Translated.{Translated}
-use Rattle.paging.specs.declared.Translated.TheVariants.{Reached, Denied}
 use Rattle.paging.specs.Walked.{patches_of}
 use Rattle.access.specs.declared.Trail.{Trail}
 use Rattle.access.specs.declared.Place.{Place}
 use Rattle.access.specs.declared.Place.TheVariants.{Nowhere, Byte, Near, Across}
 use Rattle.access.specs.declared.Access.{Access}
-use Rattle.access.specs.declared.Located.{Located}
-use Rattle.access.specs.declared.Located.TheVariants.{Here, No}
 
 -- an access of a dword (true) or a byte, for writing or for reading
 abbrev pub asked : Bool → Bool → ℕ → Want
@@ -66,14 +60,10 @@ pub record Held (m : Mem) (c : Control) (t : Want) (a : Access) : Type 0 where
   pub marked : (x : Mem) → patches (touched m c (touches_of t)) x ≡ patches (trail_marks a.write a.trail) x
   pub stored : (v : ℕ) → written m c (stores_of t v) ≡ puts a v
 
-abbrev pub LocatedOk : Mem → Control → Want → Located → Type 0
-LocatedOk m c t (Here a) = Held m c t a
-LocatedOk m c t (No q) = (g : Log) → access t (view m c) g ≡ refuse q
+abbrev pub LocatedOk : Mem → Control → Want → Result Access Reply → Type 0
+LocatedOk m c t (Ok a) = Held m c t a
+LocatedOk m c t (Err q) = (g : Log) → access t (view m c) g ≡ refuse q
 
 -- t has the marks of n instruction bytes from eip on
 abbrev pub TrailOk : Mem → Control → ℕ → ℕ → Trail → Type 0
 TrailOk m c eip n t = (x : Mem) → patches (touched m c (span false eip n)) x ≡ patches (trail_marks false t) x
-
-abbrev pub refusal_of : Translated → Reply
-refusal_of (Reached p k) = Done
-refusal_of (Denied r) = r

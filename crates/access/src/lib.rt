@@ -4,17 +4,17 @@
 ghost use Rattle.std.specs.Prelude.{◌≡◌, ℕ, ◌+◌, ◌*◌, ◌/◌, ◌%◌, ◌^◌, ◌<◌, ◌≤◌, Bool, true, false, cond, length, set, slice_set};
 ghost use Rattle.machine.specs.Record.{at};
 ghost use Rattle.machine.specs.Commit.{mark, patch, patches};
-ghost use Rattle.paging.specs.Walked.{patches_of, marks_in};
-ghost use Rattle.access.specs.Located.{asked, LocatedOk, TrailOk, trail_marks, placed, puts, nowhere, refusal_of};
+ghost use Rattle.paging.specs.Walked.{patches_of};
+ghost use Rattle.access.specs.Located.{asked, LocatedOk, TrailOk, trail_marks, placed, puts, nowhere};
 
 use machine::{Control, Reply, Want};
-use paging::{Linear, Marks, Physical, Translated};
+use paging::{Entries, Linear, Physical};
 
 // The pages that an access used: the second is None where there is one.
 #[derive(Clone, Copy)]
 pub struct Trail {
-    pub first: Marks,
-    pub last: Marks,
+    pub first: Option<Entries>,
+    pub last: Option<Entries>,
 }
 
 // Where an access lies: nowhere, one byte, a dword on one page, or its four bytes over two.
@@ -34,59 +34,37 @@ pub struct Access {
     pub trail: Trail,
 }
 
-#[derive(Clone, Copy)]
-pub enum Located {
-    Here(Access),
-    No(Reply),
-}
-
-// The refusal that a translation carries: Done where there is none.
-pub fn refusal(t: Translated) -> Reply
-    ensures { result ≡ refusal_of t }
-{
-    match t {
-        Translated::Reached(_, _) => Reply::Done,
-        Translated::Denied(k) => k,
-    }
-}
-
 // One byte; w: is it a write.
-fn single(mem: &[u8], c: Control, w: bool, l: u32) -> Located
+fn single(mem: &[u8], c: Control, w: bool, l: u32) -> Result<Access, Reply>
     ensures { LocatedOk mem.now c (asked w false l) result }
 {
-    let t = paging::translate(mem, c, w, Linear(l));
-    let Translated::Reached(p, k) = t else {
-        return Located::No(refusal(t));
-    };
-    let v = paging::byte_at(mem, p.index());
-    Located::Here(Access {
-        place: Place::Byte(p),
-        value: v,
+    let t = paging::translate(mem, c, w, Linear(l))?;
+    let value = paging::byte_at(mem, t.place.index());
+    Ok(Access {
+        place: Place::Byte(t.place),
+        value,
         write: w,
         trail: Trail {
-            first: k,
-            last: Marks::None,
+            first: t.entries,
+            last: None,
         },
     })
 }
 
 // A dword on one page.
-fn near(mem: &[u8], c: Control, w: bool, l: u32) -> Located
+fn near(mem: &[u8], c: Control, w: bool, l: u32) -> Result<Access, Reply>
     requires { (length mem.now % 4096 ≡ 0) × (l % 4096 ≤ 4092) }
     ensures { LocatedOk mem.now c (asked w true l) result }
 {
-    let t = paging::translate(mem, c, w, Linear(l));
-    let Translated::Reached(p, k) = t else {
-        return Located::No(refusal(t));
-    };
-    let v = paging::dword_at(mem, p);
-    Located::Here(Access {
-        place: Place::Near(p),
-        value: v,
+    let t = paging::translate(mem, c, w, Linear(l))?;
+    let value = paging::dword_at(mem, t.place);
+    Ok(Access {
+        place: Place::Near(t.place),
+        value,
         write: w,
         trail: Trail {
-            first: k,
-            last: Marks::None,
+            first: t.entries,
+            last: None,
         },
     })
 }
@@ -94,43 +72,36 @@ fn near(mem: &[u8], c: Control, w: bool, l: u32) -> Located
 fn gather(mem: &[u8], i: Physical, j: Physical, k: Physical, l: Physical) -> u32
     ensures { result ≡ at mem.now i.0 + 256 * at mem.now j.0 + 65536 * at mem.now k.0 + 16777216 * at mem.now l.0 }
 {
-    paging::byte_at(mem, i.index())
-        + 256 * paging::byte_at(mem, j.index())
-        + 65536 * paging::byte_at(mem, k.index())
-        + 16777216 * paging::byte_at(mem, l.index())
+    u32::from_le_bytes([
+        cells::get(mem, i.index(), 0),
+        cells::get(mem, j.index(), 0),
+        cells::get(mem, k.index(), 0),
+        cells::get(mem, l.index(), 0),
+    ])
 }
 
 // A dword over two pages: the first page's checks are finished before the second's.
-fn across(mem: &[u8], c: Control, w: bool, l: u32) -> Located
+fn across(mem: &[u8], c: Control, w: bool, l: u32) -> Result<Access, Reply>
     requires { length mem.now % 4096 ≡ 0 }
     ensures { LocatedOk mem.now c (asked w true l) result }
 {
-    let t0 = paging::translate(mem, c, w, Linear(l));
-    let Translated::Reached(p0, k) = t0 else {
-        return Located::No(refusal(t0));
-    };
-    let t1 = paging::translate(mem, c, w, Linear(std::num::wrapping_add_u32(l, 1)));
-    let Translated::Reached(p1, _) = t1 else {
-        return Located::No(refusal(t1));
-    };
-    let t2 = paging::translate(mem, c, w, Linear(std::num::wrapping_add_u32(l, 2)));
-    let Translated::Reached(p2, _) = t2 else {
-        return Located::No(refusal(t2));
-    };
-    let t3 = paging::translate(mem, c, w, Linear(std::num::wrapping_add_u32(l, 3)));
-    let Translated::Reached(p3, j) = t3 else {
-        return Located::No(refusal(t3));
-    };
-    let v = gather(mem, p0, p1, p2, p3);
-    Located::Here(Access {
-        place: Place::Across(p0, p1, p2, p3),
-        value: v,
+    let t0 = paging::translate(mem, c, w, Linear(l))?;
+    let t1 = paging::translate(mem, c, w, Linear(l.wrapping_add(1)))?;
+    let t2 = paging::translate(mem, c, w, Linear(l.wrapping_add(2)))?;
+    let t3 = paging::translate(mem, c, w, Linear(l.wrapping_add(3)))?;
+    let value = gather(mem, t0.place, t1.place, t2.place, t3.place);
+    Ok(Access {
+        place: Place::Across(t0.place, t1.place, t2.place, t3.place),
+        value,
         write: w,
-        trail: Trail { first: k, last: j },
+        trail: Trail {
+            first: t0.entries,
+            last: t3.entries,
+        },
     })
 }
 
-fn find(mem: &[u8], c: Control, w: bool, wide: bool, l: u32) -> Located
+fn find(mem: &[u8], c: Control, w: bool, wide: bool, l: u32) -> Result<Access, Reply>
     requires { length mem.now % 4096 ≡ 0 }
     ensures { LocatedOk mem.now c (asked w wide l) result }
 {
@@ -151,30 +122,21 @@ pub fn nowhere() -> Access
         value: 0,
         write: false,
         trail: Trail {
-            first: Marks::None,
-            last: Marks::None,
+            first: None,
+            last: None,
         },
     }
 }
 
 // The access that an instruction asks for; memory is only read.
-pub fn locate(mem: &[u8], c: Control, want: Want) -> Located
+pub fn locate(mem: &[u8], c: Control, want: Want) -> Result<Access, Reply>
     requires { length mem.now % 4096 ≡ 0 }
     ensures { LocatedOk mem.now c want result }
 {
     match want {
-        Want::Nothing => Located::Here(nowhere()),
+        Want::Nothing => Ok(nowhere()),
         Want::Read(wide, l) => find(mem, c, false, wide, l),
         Want::Write(wide, l) => find(mem, c, true, wide, l),
-    }
-}
-
-fn marks_of(t: Translated) -> Marks
-    ensures { patches_of false result ≡ marks_in false t }
-{
-    match t {
-        Translated::Reached(_, k) => k,
-        Translated::Denied(_) => Marks::None,
     }
 }
 
@@ -183,24 +145,13 @@ pub fn code_trail(mem: &[u8], c: Control, eip: u32, n: u32) -> Trail
     requires { (length mem.now % 4096 ≡ 0) × ((0 < n) × (n < 16)) }
     ensures { TrailOk mem.now c eip n result }
 {
-    let t = paging::translate(mem, c, false, Linear(eip));
-    let k = marks_of(t);
+    let first = paging::translate(mem, c, false, Linear(eip)).map_or(None, |t| t.entries);
     if eip % 4096 + n <= 4096 {
-        return Trail {
-            first: k,
-            last: Marks::None,
-        };
+        return Trail { first, last: None };
     }
-    let u = paging::translate(
-        mem,
-        c,
-        false,
-        Linear(std::num::wrapping_add_u32(eip, n - 1)),
-    );
-    Trail {
-        first: k,
-        last: marks_of(u),
-    }
+    let end = Linear(eip.wrapping_add(n - 1));
+    let last = paging::translate(mem, c, false, end).map_or(None, |t| t.entries);
+    Trail { first, last }
 }
 
 // An entry's low byte with its accessed bit set, and for a write its dirty bit.
@@ -228,12 +179,12 @@ fn touch(mem: &mut [u8], p: Physical, w: bool)
     }
 }
 
-fn mark_page(mem: &mut [u8], k: Marks, w: bool)
+fn mark_page(mem: &mut [u8], k: Option<Entries>, w: bool)
     ensures { mem.new ≡ patches (patches_of w k) mem.old }
 {
-    if let Marks::Entries(d, t) = k {
-        touch(mem, d, false);
-        touch(mem, t, w);
+    if let Some(e) = k {
+        touch(mem, e.dir, false);
+        touch(mem, e.table, w);
     }
 }
 
@@ -241,38 +192,29 @@ fn mark_page(mem: &mut [u8], k: Marks, w: bool)
 pub fn mark_trail(mem: &mut [u8], t: Trail, w: bool)
     ensures { mem.new ≡ patches (trail_marks w t) mem.old }
 {
-    let k = t.first;
-    mark_page(mem, k, w);
-    let j = t.last;
-    mark_page(mem, j, w);
-}
-
-// Stores one byte; past the end, nothing.
-fn put(mem: &mut [u8], i: usize, b: u8)
-    ensures { mem.new ≡ slice_set mem.old i b }
-{
-    if i < mem.len() {
-        mem[i] = b;
-    }
+    mark_page(mem, t.first, w);
+    mark_page(mem, t.last, w);
 }
 
 fn put_near(mem: &mut [u8], p: Physical, v: u32)
     ensures { mem.new ≡ patches (placed (Place.Near p) v) mem.old }
 {
     let i = p.index();
-    put(mem, i, (v % 256) as u8);
-    put(mem, i + 1, (v / 256 % 256) as u8);
-    put(mem, i + 2, (v / 65536 % 256) as u8);
-    put(mem, i + 3, (v / 16777216 % 256) as u8);
+    let [b0, b1, b2, b3] = v.to_le_bytes();
+    cells::put(mem, i, b0);
+    cells::put(mem, i + 1, b1);
+    cells::put(mem, i + 2, b2);
+    cells::put(mem, i + 3, b3);
 }
 
 fn put_across(mem: &mut [u8], a: Physical, b: Physical, c: Physical, d: Physical, v: u32)
     ensures { mem.new ≡ patches (placed (Place.Across a b c d) v) mem.old }
 {
-    put(mem, a.index(), (v % 256) as u8);
-    put(mem, b.index(), (v / 256 % 256) as u8);
-    put(mem, c.index(), (v / 65536 % 256) as u8);
-    put(mem, d.index(), (v / 16777216 % 256) as u8);
+    let [b0, b1, b2, b3] = v.to_le_bytes();
+    cells::put(mem, a.index(), b0);
+    cells::put(mem, b.index(), b1);
+    cells::put(mem, c.index(), b2);
+    cells::put(mem, d.index(), b3);
 }
 
 fn put_in(mem: &mut [u8], at: Place, v: u32)
@@ -280,7 +222,7 @@ fn put_in(mem: &mut [u8], at: Place, v: u32)
 {
     match at {
         Place::Nowhere => {}
-        Place::Byte(p) => put(mem, p.index(), (v % 256) as u8),
+        Place::Byte(p) => cells::put(mem, p.index(), (v % 256) as u8),
         Place::Near(p) => put_near(mem, p, v),
         Place::Across(a, b, c, d) => put_across(mem, a, b, c, d, v),
     }

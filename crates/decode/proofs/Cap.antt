@@ -1,12 +1,13 @@
 -- An instruction has at least one byte and at most fifteen.
 -- Assumes nothing.
 use Prim.Native.Nat.{ℕ, zero, suc, ◌+◌, ◌/◌, ◌%◌, ◌<◌, ◌≤◌}
-use mathlib.Core.Path.{◌≡◌, sym, ap, ◌∙◌}
+use mathlib.Core.Path.{◌≡◌, sym}
 use mathlib.Core.Bool.{Bool, true, false, cond, ◌&&◌}
 use native.Mathlib.Omega.{arith}
 use native.Mathlib.Decide.{dec_lt}
 use borrow.Author.Tests.{lt-ltb, le-ltb}
 use lib.Dec.{leb, eqb}
+use Rattle.std.specs.Prelude.{Ok}
 use Rattle.machine.specs.declared.Reply.{Reply}
 use Rattle.machine.specs.Record.{wrap}
 use Rattle.machine.specs.Paging.{View, Seen, Byte, Refused}
@@ -17,8 +18,6 @@ use Rattle.encoding.specs.Encodings.{class_of, not_built, override, escape, unde
 use Rattle.encoding.specs.Attributes.{reg_field, has_modrm, has_offset, undefined_form, unbuilt_form, immediate_bytes, implied_register}
 use Rattle.fetch.specs.Fetch.{fetch_signed, fetch_word, fetch_dword, number}
 use Rattle.fetch.specs.Read.{log_at}
-use Rattle.decode.specs.declared.Decoded.{Decoded}
-use Rattle.decode.specs.declared.Decoded.TheVariants.{Ready}
 use Rattle.decode.specs.Decode.{prefixed, escaped, opcode, in_register, in_memory, displacement_bytes, after_sib, after_modrm, judged, finish, with_modrm, with_offset, classed, decode}
 use Rattle.decode.specs.Read.{ready_of}
 
@@ -131,7 +130,7 @@ fetched_within eip n v i e =
     (omega (arith, h.0), h.1)
 
 -- by the contract of `decode`
-pub length_within : (eip : ℕ) (v : View) {r : Decoded} {i : Instruction} → ready_of eip r ≡ decode eip v (log_at eip 0) → r ≡ Ready i → (0 < i.length) × (i.length < 16)
-length_within eip v {i = i} e f =
-    let h = fetched_within eip i.length v i (sym e ∙ ap (ready_of eip) f) in
+pub length_within : (eip : ℕ) (v : View) {i : Instruction} → ready_of eip (Ok i) ≡ decode eip v (log_at eip 0) → (0 < i.length) × (i.length < 16)
+length_within eip v {i = i} e =
+    let h = fetched_within eip i.length v i (sym e) in
     (h.0, omega (arith, h.1))

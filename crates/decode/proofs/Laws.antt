@@ -1,10 +1,11 @@
 -- How the answers of the decoder's functions compose.
 -- Assumes nothing.
 use Prim.Native.Nat.{ℕ, suc, ◌+◌, ◌-◌, ◌<◌, ◌≤◌}
-use mathlib.Core.Path.{◌≡◌, sym, ap, ◌∙◌}
+use mathlib.Core.Path.{◌≡◌, sym}
 use mathlib.Core.Bool.{true, false}
 use native.Mathlib.Omega.{arith}
 use lib.Dec.{eqb}
+use Rattle.std.specs.Prelude.{Ok, Err}
 use Rattle.machine.specs.Record.{Mem}
 use Rattle.machine.specs.declared.Control.{Control}
 use Rattle.machine.specs.declared.Reply.{Reply}
@@ -13,24 +14,18 @@ use Rattle.machine.specs.Paging.{view}
 use Rattle.machine.specs.Act.{Res, ok, refuse, fetch}
 use Rattle.encoding.specs.declared.Operand.{Operand}
 use Rattle.encoding.specs.Encodings.{class_of, override}
-use Rattle.fetch.specs.declared.Fetched.{Fetched}
-use Rattle.fetch.specs.declared.Fetched.TheVariants.{Got}
 use Rattle.fetch.specs.Read.{log_at}
 use Rattle.decode.specs.declared.Formed.{Formed}
-use Rattle.decode.specs.declared.Formed.TheVariants.{Made, Spoilt}
 use Rattle.decode.specs.Decode.{prefixed}
-use Rattle.decode.specs.Read.{formed_of, spoilt_of, below}
+use Rattle.decode.specs.Read.{formed_of}
 
 -- ---- from an answer to what the rule gives
 
-pub made : (eip : ℕ) {n : ℕ} {o : Operand} {r : Formed} {x : Res Operand} → formed_of eip r ≡ x → r ≡ Made o n → x ≡ ok o (log_at eip n)
-made eip e f = sym e ∙ ap (formed_of eip) f
+pub made : (eip : ℕ) {f : Formed} {x : Res Operand} → formed_of eip (Ok f) ≡ x → x ≡ ok f.operand (log_at eip f.length)
+made eip e = sym e
 
-pub spoiled : (eip : ℕ) {q k : Reply} {r : Formed} {x : Res Operand} → formed_of eip r ≡ x → r ≡ Spoilt q → k ≡ spoilt_of r → x ≡ refuse k
-spoiled eip e f g = sym e ∙ ap (formed_of eip) f ∙ ap refuse (sym (g ∙ ap spoilt_of f))
-
-pub got_below : (limit : ℕ) {b k : ℕ} {r : Fetched} → r ≡ Got b k → below limit r → b < limit
-got_below limit e h = rw e at h
+pub spoiled : (eip : ℕ) {q : Reply} {x : Res Operand} → formed_of eip (Err q) ≡ x → x ≡ refuse q
+spoiled eip e = sym e
 
 -- ---- the overrides, one further
 

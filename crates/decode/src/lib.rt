@@ -4,71 +4,49 @@
 ghost use Rattle.std.specs.Prelude.{◌≡◌, ◌%◌, length};
 ghost use Rattle.machine.specs.Paging.{view};
 ghost use Rattle.encoding.specs.Encodings.{Classed};
-ghost use Rattle.fetch.specs.Read.{log_at, CodeOk};
+ghost use Rattle.fetch.specs.Read.{log_at};
 ghost use Rattle.decode.specs.Decode.{scale_of, index_of, displacement_bytes, displaced, after_sib, after_modrm, finish, with_modrm, with_offset, classed, decode};
-ghost use Rattle.decode.specs.Read.{PrefixOk, OpcodeOk, formed_of, spoilt_of, ready_of};
+ghost use Rattle.decode.specs.Read.{shown, PrefixOk, OpcodeOk, formed_of, ready_of};
 
 use encoding::{Instruction, Operand};
 use fetch::{Code, Fetched};
 use machine::{Control, Reply};
 
+// An operand, and how many bytes are fetched by then.
 #[derive(Clone, Copy)]
-pub enum Formed {
-    Made(Operand, u32),
-    Spoilt(Reply),
-}
-
-#[derive(Clone, Copy)]
-pub enum Decoded {
-    Ready(Instruction),
-    Unready(Reply),
-}
-
-fn spoilt(r: Formed) -> Reply
-    ensures { result ≡ spoilt_of r }
-{
-    match r {
-        Formed::Made(_, _) => Reply::Done,
-        Formed::Spoilt(k) => k,
-    }
+pub struct Formed {
+    pub operand: Operand,
+    pub length: u32,
 }
 
 // The first byte that is no override.
-fn prefixed(mem: &[u8], c: Control, t: &[u8; 512], s: Code) -> Fetched
-    requires { (CodeOk mem.now c s) × (Classed t.now) }
-    ensures { PrefixOk mem.now c s.eip result }
+fn prefixed(s: &Code, t: &[u8; 512]) -> Result<Fetched, Reply>
+    requires { Classed t.now }
+    ensures { PrefixOk s.now result }
 {
-    let mut n: u32 = 0;
-    while n < 16 {
-        let r0 = fetch::fetch(mem, c, s, n);
-        let Fetched::Got(b, k) = r0 else {
-            return Fetched::Miss(fetch::miss(r0));
-        };
-        if encoding::class_in(t, b) != encoding::OVERRIDE {
-            return Fetched::Got(b, k);
+    for n in 0..16 {
+        let byte = s.byte(n)?;
+        if encoding::class_in(t, byte.value) != encoding::OVERRIDE {
+            return Ok(byte);
         }
-        n += 1;
     }
-    Fetched::Miss(Reply::Fault(13, 0, 0))
+    Err(Reply::Fault(13, 0, 0))
 }
 
 // The opcode: 256 and up after 0F.
-fn opcode(mem: &[u8], c: Control, t: &[u8; 512], s: Code) -> Fetched
-    requires { (CodeOk mem.now c s) × (Classed t.now) }
-    ensures { OpcodeOk mem.now c s.eip result }
+fn opcode(s: &Code, t: &[u8; 512]) -> Result<Fetched, Reply>
+    requires { Classed t.now }
+    ensures { OpcodeOk s.now result }
 {
-    let r0 = prefixed(mem, c, t, s);
-    let Fetched::Got(b, n) = r0 else {
-        return Fetched::Miss(fetch::miss(r0));
-    };
-    if encoding::class_in(t, b) != encoding::ESCAPE {
-        return Fetched::Got(b, n);
+    let first = prefixed(s, t)?;
+    if encoding::class_in(t, first.value) != encoding::ESCAPE {
+        return Ok(first);
     }
-    let r1 = fetch::fetch(mem, c, s, n);
-    let Fetched::Got(d, k) = r1 else {
-        return Fetched::Miss(fetch::miss(r1));
-    };
-    Fetched::Got(d + 256, k)
+    let second = s.byte(first.length)?;
+    Ok(Fetched {
+        value: second.value + 256,
+        length: second.length,
+    })
 }
 
 pub fn scale_of(s: u32) -> u32
@@ -109,56 +87,48 @@ fn displacement_bytes(md: u32) -> u32
 
 // An operand in memory, with a displacement of so many bytes.
 fn displaced(
-    mem: &[u8],
-    c: Control,
-    s: Code,
+    s: &Code,
     n: u32,
     size: u32,
     base: u32,
     index: u32,
     scale: u32,
-) -> Formed
-    requires { CodeOk mem.now c s }
-    ensures { formed_of s.eip result ≡ displaced s.eip size base index scale (view mem.now c) (log_at s.eip n) }
+) -> Result<Formed, Reply>
+    ensures { formed_of s.now.eip result ≡ displaced s.now.eip size base index scale (shown s.now) (log_at s.now.eip n) }
 {
-    let r0 = fetch::number(mem, c, s, n, size);
-    let Fetched::Got(x, k) = r0 else {
-        return Formed::Spoilt(fetch::miss(r0));
-    };
-    Formed::Made(
-        Operand {
+    let x = s.number(n, size)?;
+    Ok(Formed {
+        operand: Operand {
             direct: false,
             register: 0,
             base,
             index,
             scale,
-            displacement: x,
+            displacement: x.value,
         },
-        k,
-    )
+        length: x.length,
+    })
 }
 
-fn after_sib(mem: &[u8], c: Control, s: Code, n: u32, md: u32, b: u32) -> Formed
-    requires { CodeOk mem.now c s }
-    ensures { formed_of s.eip result ≡ after_sib s.eip md b (view mem.now c) (log_at s.eip n) }
+fn after_sib(s: &Code, n: u32, md: u32, b: u32) -> Result<Formed, Reply>
+    ensures { formed_of s.now.eip result ≡ after_sib s.now.eip md b (shown s.now) (log_at s.now.eip n) }
 {
     let index = index_of(b);
     let scale = scale_of(b);
     if (b % 8 == 5) & (md == 0) {
-        return displaced(mem, c, s, n, 4, 8, index, scale);
+        return displaced(s, n, 4, 8, index, scale);
     }
     let size = displacement_bytes(md);
-    displaced(mem, c, s, n, size, b % 8, index, scale)
+    displaced(s, n, size, b % 8, index, scale)
 }
 
 // What follows the ModRM byte b.
-fn after_modrm(mem: &[u8], c: Control, s: Code, n: u32, b: u32) -> Formed
-    requires { CodeOk mem.now c s }
-    ensures { formed_of s.eip result ≡ after_modrm s.eip b (view mem.now c) (log_at s.eip n) }
+fn after_modrm(s: &Code, n: u32, b: u32) -> Result<Formed, Reply>
+    ensures { formed_of s.now.eip result ≡ after_modrm s.now.eip b (shown s.now) (log_at s.now.eip n) }
 {
     if 192 <= b {
-        return Formed::Made(
-            Operand {
+        return Ok(Formed {
+            operand: Operand {
                 direct: true,
                 register: b % 8,
                 base: 8,
@@ -166,103 +136,81 @@ fn after_modrm(mem: &[u8], c: Control, s: Code, n: u32, b: u32) -> Formed
                 scale: 1,
                 displacement: 0,
             },
-            n,
-        );
+            length: n,
+        });
     }
     if b % 8 == 4 {
-        let r1 = fetch::fetch(mem, c, s, n);
-        let Fetched::Got(t, k) = r1 else {
-            return Formed::Spoilt(fetch::miss(r1));
-        };
-        return after_sib(mem, c, s, k, b / 64, t);
+        let sib = s.byte(n)?;
+        return after_sib(s, sib.length, b / 64, sib.value);
     }
     if (b / 64 == 0) & (b % 8 == 5) {
-        return displaced(mem, c, s, n, 4, 8, 8, 1);
+        return displaced(s, n, 4, 8, 8, 1);
     }
     let size = displacement_bytes(b / 64);
-    displaced(mem, c, s, n, size, b % 8, 8, 1)
+    displaced(s, n, size, b % 8, 8, 1)
 }
 
 // The immediate, and the whole instruction.
-fn finish(mem: &[u8], k: Control, s: Code, n: u32, c: u32, b: u32, reg: u32, o: Operand) -> Decoded
-    requires { CodeOk mem.now k s }
-    ensures { ready_of s.eip result ≡ finish s.eip c b reg o (view mem.now k) (log_at s.eip n) }
+fn finish(s: &Code, n: u32, c: u32, b: u32, reg: u32, o: Operand) -> Result<Instruction, Reply>
+    ensures { ready_of s.now.eip result ≡ finish s.now.eip c b reg o (shown s.now) (log_at s.now.eip n) }
 {
-    let r0 = fetch::number(mem, k, s, n, encoding::immediate_bytes(c, b, reg));
-    let Fetched::Got(x, length) = r0 else {
-        return Decoded::Unready(fetch::miss(r0));
-    };
-    let family = encoding::family_of(c, reg);
-    let operation = encoding::operation_of(c, b, reg);
-    let wide = encoding::is_wide(c, b);
-    let immediate = encoding::immediate_of(c, x);
-    Decoded::Ready(Instruction {
-        family,
-        operation,
-        wide,
+    let immediate = s.number(n, encoding::immediate_bytes(c, b, reg))?;
+    Ok(Instruction {
+        family: encoding::family_of(c, reg),
+        operation: encoding::operation_of(c, b, reg),
+        wide: encoding::is_wide(c, b),
         register: reg,
         operand: o,
-        immediate,
-        length,
+        immediate: encoding::immediate_of(c, immediate.value),
+        length: immediate.length,
     })
 }
 
-fn with_modrm(mem: &[u8], k: Control, s: Code, n: u32, c: u32, b: u32) -> Decoded
-    requires { CodeOk mem.now k s }
-    ensures { ready_of s.eip result ≡ with_modrm s.eip c b (view mem.now k) (log_at s.eip n) }
+fn with_modrm(s: &Code, n: u32, c: u32, b: u32) -> Result<Instruction, Reply>
+    ensures { ready_of s.now.eip result ≡ with_modrm s.now.eip c b (shown s.now) (log_at s.now.eip n) }
 {
-    let r0 = fetch::fetch(mem, k, s, n);
-    let Fetched::Got(m, j) = r0 else {
-        return Decoded::Unready(fetch::miss(r0));
-    };
+    let modrm = s.byte(n)?;
+    let m = modrm.value;
     if encoding::undefined_form(c, m) {
-        return Decoded::Unready(Reply::Fault(6, 0, 0));
+        return Err(Reply::Fault(6, 0, 0));
     }
     if encoding::unbuilt_form(c, m) {
-        return Decoded::Unready(Reply::NotBuilt(s.eip));
+        return Err(Reply::NotBuilt(s.eip));
     }
-    let r1 = after_modrm(mem, k, s, j, m);
-    let Formed::Made(o, i) = r1 else {
-        return Decoded::Unready(spoilt(r1));
-    };
-    finish(mem, k, s, i, c, b, m / 8 % 8, o)
+    let f = after_modrm(s, modrm.length, m)?;
+    finish(s, f.length, c, b, m / 8 % 8, f.operand)
 }
 
 // A0 to A3: the address stands in the instruction.
-fn with_offset(mem: &[u8], k: Control, s: Code, n: u32, c: u32, b: u32) -> Decoded
-    requires { CodeOk mem.now k s }
-    ensures { ready_of s.eip result ≡ with_offset s.eip c b (view mem.now k) (log_at s.eip n) }
+fn with_offset(s: &Code, n: u32, c: u32, b: u32) -> Result<Instruction, Reply>
+    ensures { ready_of s.now.eip result ≡ with_offset s.now.eip c b (shown s.now) (log_at s.now.eip n) }
 {
-    let r0 = fetch::number(mem, k, s, n, 4);
-    let Fetched::Got(x, j) = r0 else {
-        return Decoded::Unready(fetch::miss(r0));
-    };
+    let x = s.number(n, 4)?;
     let o = Operand {
         direct: false,
         register: 0,
         base: 8,
         index: 8,
         scale: 1,
-        displacement: x,
+        displacement: x.value,
     };
-    finish(mem, k, s, j, c, b, 0, o)
+    finish(s, x.length, c, b, 0, o)
 }
 
-fn classed(mem: &[u8], k: Control, s: Code, n: u32, c: u32, b: u32) -> Decoded
-    requires { CodeOk mem.now k s }
-    ensures { ready_of s.eip result ≡ classed s.eip c b (view mem.now k) (log_at s.eip n) }
+fn classed(s: &Code, n: u32, c: u32, b: u32) -> Result<Instruction, Reply>
+    ensures { ready_of s.now.eip result ≡ classed s.now.eip c b (shown s.now) (log_at s.now.eip n) }
 {
     if c == encoding::NOT_BUILT {
-        return Decoded::Unready(Reply::NotBuilt(s.eip));
+        return Err(Reply::NotBuilt(s.eip));
     }
     if c == encoding::UNDEFINED {
-        return Decoded::Unready(Reply::Fault(6, 0, 0));
+        return Err(Reply::Fault(6, 0, 0));
     }
     if encoding::has_modrm(c) {
-        return with_modrm(mem, k, s, n, c, b);
+        return with_modrm(s, n, c, b);
     }
     if encoding::has_offset(c) {
-        return with_offset(mem, k, s, n, c, b);
+        return with_offset(s, n, c, b);
     }
     let o = Operand {
         direct: true,
@@ -272,19 +220,16 @@ fn classed(mem: &[u8], k: Control, s: Code, n: u32, c: u32, b: u32) -> Decoded
         scale: 1,
         displacement: 0,
     };
-    finish(mem, k, s, n, c, b, 0, o)
+    finish(s, n, c, b, 0, o)
 }
 
 // The instruction at eip.
-pub fn decode(mem: &[u8], k: Control, t: &[u8; 512], eip: u32) -> Decoded
+pub fn decode(mem: &[u8], k: Control, t: &[u8; 512], eip: u32) -> Result<Instruction, Reply>
     requires { (length mem.now % 4096 ≡ 0) × (Classed t.now) }
     ensures { ready_of eip result ≡ decode eip (view mem.now k) (log_at eip 0) }
 {
-    let s = fetch::open(mem, k, eip);
-    let r0 = opcode(mem, k, t, s);
-    let Fetched::Got(b, n) = r0 else {
-        return Decoded::Unready(fetch::miss(r0));
-    };
-    let c = encoding::class_in(t, b);
-    classed(mem, k, s, n, c, b)
+    let s = Code::open(mem, k, eip);
+    let b = opcode(&s, t)?;
+    let c = encoding::class_in(t, b.value);
+    classed(&s, b.length, c, b.value)
 }

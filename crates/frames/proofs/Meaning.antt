@@ -10,15 +10,11 @@ use Rattle.machine.specs.Paging.{Entry, Gone, Names, entry_of, dword_at, slot, e
 use Rattle.machine.specs.Audit.{first, is_some}
 use Rattle.isolation.specs.Answers.{Lowest}
 use Rattle.isolation.specs.Guarded.{UserFrame}
-use Rattle.isolation.proofs.Audited.{first_none, first_some, some_of, some_is}
+use Rattle.isolation.proofs.Audited.{and_true, first_none, first_some, some_of, some_is}
 use Rattle.isolation.proofs.Isolation.{within_mapped}
 use Rattle.frames.specs.Users.{opens_at, opened, leads_at, users}
 
 -- ---- an entry with all three bits
-
-both : (a b : Bool) → (a && b) ≡ true → (a ≡ true) × (b ≡ true)
-both true b e = (refl, e)
-both false b e = absurd (false≢true e)
 
 open_entry : (e : ℕ) → e % 8 ≡ 7 → entry_of e ≡ Names true true (e / 4096)
 unfolding entry_of
@@ -60,9 +56,6 @@ module _ (m : Mem) (c : Control) (d t : ℕ) (hd : dword_at m (slot (dir_frame c
       (rw (lt-ltb _ _ (inside m (slot table t) ht), open_entry _ ht) refl)
 
 -- ---- and what makes such a page
-
-and_true : (a b : Bool) → true ≡ (a && b) → (a ≡ true) × (b ≡ true)
-and_true a b e = both a b (sym e)
 
 three : (e : ℕ) → e % 2 ≡ 1 → e / 2 % 2 ≡ 1 → e ≡ 4 * (e / 4) + 3
 three e p w =
@@ -109,8 +102,8 @@ module _ (m : Mem) (c : Control) (f d t x y : ℕ) where
           let a : true ≡ (us && us') = cc in
           let b : true ≡ (rw' && rw'') = cc in
           let n : f' ≡ f = cc in
-          let u = and_true us us' a in
-          let w = and_true rw' rw'' b in
+          let u = and_true us us' (sym a) in
+          let w = and_true rw' rw'' (sym b) in
           let top = open_back _ us rw' g q u.0 w.0 in
           let low = open_back _ us' rw'' f' r u.1 w.1 in
           (top.0, rw (← top.1) (low.0, sym n ∙ low.1))
@@ -133,9 +126,9 @@ module _ (m : Mem) (c : Control) (f : ℕ) where
   unfolding users opened
   users_mapped h =
       let d = found_there (leads_at m c f) h in
-      let top = both _ _ d.1.passes in
+      let top = and_true _ _ d.1.passes in
       let t = found_there (opens_at m (dword_at m (slot (dir_frame c) d.0) / 4096) f) top.1 in
-      let low = both _ _ t.1.passes in
+      let low = and_true _ _ t.1.passes in
       let k = open_page m c d.0 t.0 (eqb-true _ _ top.0) (eqb-true _ _ low.0) in
       record {
         dir = d.0;

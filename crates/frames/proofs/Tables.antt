@@ -1,20 +1,42 @@
 -- What a search finds: a frame that holds the directory or a present table, a page that the user may write.
 -- Assumes nothing.
-use Rattle.std.proofs.Common.{◌≡◌, ℕ, ◌/◌, ◌%◌, ◌<◌, Bool, true, false, cond, ◌&&◌, ◌||◌, eqb, refl, eq-eqb, ne_eqb}
-use mathlib.Core.Option.{none}
+use Rattle.std.proofs.Common.{◌≡◌, ℕ, zero, suc, ◌+◌, ◌/◌, ◌%◌, Bool, true, false, cond, ◌&&◌, ◌||◌, eqb, refl, ◌∙◌, arith, eq-eqb, ne_eqb}
+use Rattle.std.specs.List.{list_any, range_with_len}
+use mathlib.Core.Option.{Option, none, some}
 use Rattle.machine.specs.declared.Control.{Control}
 use Rattle.machine.specs.Record.{Mem, has}
 use Rattle.machine.specs.Paging.{Gone, Names, entry_of, entry, dir_frame}
-use Rattle.machine.specs.Audit.{first, is_some, names, holds_table}
-use Rattle.frames.specs.Users.{opened, leads_to}
-use Rattle.audit.proofs.First.{hit}
+use Rattle.machine.specs.Audit.{later, first, is_some, names, holds_table}
 
+-- whether one of the numbers below n passes is whether there is a first
 module _ (p : ℕ → Bool) where
-  pub found : (n : ℕ) → first p n ≡ none → p n ≡ true → n < 1024 → true ≡ is_some (first p 1024)
-  found n e h l = rw (hit p n 1024 e h l)
+  one_more : (a n : ℕ) → list_any p (range_with_len a (suc n)) ≡ (list_any p (range_with_len a n) || p (a + n))
+  one_more a zero =
+      let z : a + 0 ≡ a = omega arith in
+      rw z (by (p a))
+    where
+      by : (b : Bool) → (b || false) ≡ b
+      by true = refl
+      by false = refl
+  one_more a (suc n) =
+      let s : a + 1 + n ≡ a + suc n = omega arith in
+      rw (one_more (a + 1) n, s) (by (p a) (list_any p (range_with_len (a + 1) n)) (p (a + suc n)))
+    where
+      by : (x y z : Bool) → (x || (y || z)) ≡ ((x || y) || z)
+      by true y z = refl
+      by false y z = refl
 
-  pub missed : first p 1024 ≡ none → false ≡ is_some (first p 1024)
-  missed e = rw e
+  is_later : (o : Option ℕ) (b : Bool) (n : ℕ) → (is_some o || b) ≡ is_some (later o b n)
+  is_later none true n = refl
+  is_later none false n = refl
+  is_later (some i) b n = refl
+
+  pub any_first : (n : ℕ) → list_any p (range_with_len 0 n) ≡ is_some (first p n)
+  unfolding first
+  any_first zero = refl
+  any_first (suc n) =
+      let z : 0 + n ≡ n = omega arith in
+      one_more 0 n ∙ (rw (z, any_first n) (is_later (first p n) (p n) n))
 
 pub names_of : (f e : ℕ) → names f (entry_of e) ≡ (eqb (e % 2) 1 && eqb f (e / 4096))
 unfolding entry_of
@@ -32,21 +54,6 @@ module _ (m : Mem) (c : Control) (f : ℕ) where
   unfolding holds_table
   directory h = rw (eq-eqb f (dir_frame c) h)
 
-  pub table : (d : ℕ) → first named d ≡ none → named d ≡ true → d < 1024 → true ≡ holds_table m c f
+  pub table : (b : Bool) → (f ≡ dir_frame c → ⊥) → b ≡ list_any named (range_with_len 0 1024) → b ≡ holds_table m c f
   unfolding holds_table
-  table d e h l = rw (← found named d e h l) (by (eqb f (dir_frame c)))
-    where
-      by : (b : Bool) → true ≡ (b || true)
-      by true = refl
-      by false = refl
-
-  pub neither : (f ≡ dir_frame c → ⊥) → first named 1024 ≡ none → false ≡ holds_table m c f
-  unfolding holds_table
-  neither h e = rw (ne_eqb f (dir_frame c) h, e)
-
-module _ (m : Mem) (f x e : ℕ) (p : e ≡ x) where
-  pub leads : (r : Bool) → e % 8 ≡ 7 → r ≡ opened m (e / 4096) f → r ≡ leads_to m f x
-  leads r h q = rw (← p) (rw (eq-eqb (e % 8) 7 h) q)
-
-  pub stops : (e % 8 ≡ 7 → ⊥) → false ≡ leads_to m f x
-  stops h = rw (← p) (rw (ne_eqb (e % 8) 7 h))
+  table b h e = rw (ne_eqb f (dir_frame c) h) (e ∙ any_first named 1024)

@@ -1,8 +1,9 @@
-// A copy of the frames that are not blank. A slot of 0 says that the frame was blank, k that its copy is number k - 1.
+// A copy of the frames that are not blank.
 ghost use Rattle.std.specs.Prelude.{◌≡◌, true, false, ◌||◌, ◌==◌};
 ghost use Rattle.machine.specs.Commit.{mark};
 
-#[derive(Clone, Copy)]
+// What became of a frame: nothing, marks in the low bytes of its dwords alone, or something else.
+#[derive(Clone, Copy, PartialEq, Eq)]
 pub enum Change {
     Nothing,
     Marks,
@@ -10,63 +11,22 @@ pub enum Change {
 }
 
 // The frames of the largest memory that is compared.
-const FRAMES: u32 = 1024;
+const FRAMES: usize = 1024;
 
-// No count of copies: there is no room for another.
-const FULL: u32 = 4294967295;
+// The bytes of a frame.
+const SIZE: usize = 4096;
 
-// Is frame f all zeros? What lies past the end of memory is.
-fn is_blank(mem: &[u8], f: u32) -> bool {
-    let from = f as usize * 4096;
-    let mut i: usize = 0;
-    while i < 4096 {
-        if cells::byte(mem, from + i) != 0 {
-            return false;
-        }
-        i += 1;
-    }
-    true
+// The frames of a memory as they were: a copy of each, and none of one that was blank.
+#[derive(Clone, Copy)]
+pub struct Copies<'a> {
+    frames: [Option<&'a [u8]>; FRAMES],
 }
 
-// Copies frame f unless it is blank, after `used` copies. Answers how many there are now, or FULL.
-fn keep(mem: &[u8], f: u32, copies: &mut [u8], slots: &mut [u32], used: u32) -> u32 {
-    if is_blank(mem, f) {
-        cells::put_number(slots, f, 0);
-        return used;
-    }
-    if copies.len() < used as usize * 4096 + 4096 {
-        return FULL;
-    }
-    cells::copy(mem, f % 1048576 * 4096, copies, used % 1048576 * 4096, 4096);
-    let now = std::num::wrapping_add_u32(used, 1);
-    cells::put_number(slots, f, now);
-    now
-}
-
-// Copies every frame that is not blank. False where there are more of them than copies has room for.
-pub fn remember(mem: &[u8], copies: &mut [u8], slots: &mut [u32]) -> bool {
-    let mut used: u32 = 0;
-    let mut f: u32 = 0;
-    while f < FRAMES {
-        used = keep(mem, f, copies, slots, used);
-        if used == FULL {
-            return false;
-        }
-        f += 1;
-    }
-    true
-}
-
-// Byte i of a frame as it was.
-fn before(copies: &[u8], k: u32, i: usize) -> u8 {
-    if k == 0 {
-        return 0;
-    }
-    let at = (k as usize - 1) * 4096;
-    if at <= copies.len() {
-        return cells::byte(&copies[at..], i);
-    }
-    0
+// What there is of frame f: past the end of memory nothing, which counts as zeros.
+fn frame(mem: &[u8], f: u32) -> &[u8] {
+    let at = f as usize * SIZE;
+    let end = mem.len().min(at + SIZE);
+    mem.get(at..end).unwrap_or(&[])
 }
 
 // Is b what the marks of an access, or of a write, make of an entry's low byte a?
@@ -76,36 +36,44 @@ fn is_marked(a: u8, b: u8) -> bool
     (b == a % 32 + 32 + a / 64 * 64) | (b == a % 32 + 96 + a / 128 * 128)
 }
 
-// What became of frame f: nothing, marks in the low bytes of its dwords alone, or something else.
-pub fn change_of(mem: &[u8], copies: &[u8], slots: &[u32], f: u32) -> Change {
-    let k = cells::number(slots, f);
-    let from = f as usize * 4096;
-    let mut marks = false;
-    let mut i: usize = 0;
-    while i < 4096 {
-        let a = before(copies, k, i);
-        let b = cells::byte(mem, from + i);
-        if a != b {
-            if (i % 4 != 0) | !is_marked(a, b) {
-                return Change::Other;
+impl<'a> Copies<'a> {
+    // Copies every frame that is not blank, if there is room for them.
+    pub fn remember(mem: &[u8], room: &'a mut [u8]) -> Option<Copies<'a>> {
+        let mut frames = [None; FRAMES];
+        let mut rest = room;
+        for f in 0..FRAMES {
+            let bytes = frame(mem, f as u32);
+            if bytes.iter().any(|b| *b != 0) {
+                let (copy, more) = rest.split_at_mut_checked(SIZE)?;
+                rest = more;
+                for (i, b) in copy.iter_mut().enumerate() {
+                    *b = cells::get(bytes, i, 0);
+                }
+                frames[f] = Some(&*copy);
             }
-            marks = true;
         }
-        i += 1;
+        Some(Copies { frames })
     }
-    if marks {
-        Change::Marks
-    } else {
-        Change::Nothing
-    }
-}
 
-// Is frame f as it was?
-pub fn is_same(mem: &[u8], copies: &[u8], slots: &[u32], f: u32) -> bool {
-    let change = change_of(mem, copies, slots, f);
-    if let Change::Nothing = change {
-        true
-    } else {
-        false
+    pub fn change_of(&self, mem: &[u8], f: u32) -> Change {
+        let before = cells::get(&self.frames, f as usize, None).unwrap_or(&[]);
+        let now = frame(mem, f);
+        let mut change = Change::Nothing;
+        for i in 0..SIZE {
+            let a = cells::get(before, i, 0);
+            let b = cells::get(now, i, 0);
+            if a != b {
+                if (i % 4 != 0) | !is_marked(a, b) {
+                    return Change::Other;
+                }
+                change = Change::Marks;
+            }
+        }
+        change
+    }
+
+    // Is frame f as it was?
+    pub fn is_same(&self, mem: &[u8], f: u32) -> bool {
+        self.change_of(mem, f) == Change::Nothing
     }
 }

@@ -4,13 +4,13 @@
 mod copies;
 mod maps;
 
-pub use copies::{Change, change_of, is_same, remember};
+pub use copies::{Change, Copies};
 use machine::Control;
 pub use maps::{holds_table, is_users};
 
 // A changed frame: the user's own, by the maps; a directory or table with accessed and dirty marks set; one that the kernel wrote, whom
 // the maps need not bind; or none of these.
-#[derive(Clone, Copy)]
+#[derive(Clone, Copy, PartialEq, Eq)]
 pub enum Kind {
     Same,
     Own,
@@ -19,24 +19,15 @@ pub enum Kind {
     Neither,
 }
 
-// What became of frame f.
-pub fn kind_of(mem: &[u8], c: Control, copies: &[u8], slots: &[u32], f: u32) -> Kind {
-    let change = change_of(mem, copies, slots, f);
-    if let Change::Nothing = change {
-        return Kind::Same;
-    }
-    if let Change::Marks = change {
-        if holds_table(mem, c, f) {
-            return Kind::Marks;
+impl Copies<'_> {
+    // What became of frame f.
+    pub fn kind_of(&self, mem: &[u8], c: Control, f: u32) -> Kind {
+        match self.change_of(mem, f) {
+            Change::Nothing => Kind::Same,
+            Change::Marks if holds_table(mem, c, f) => Kind::Marks,
+            _ if c.ring == 0 => Kind::Kernel,
+            _ if (c.cr0 / 2147483648 % 2 == 1) && is_users(mem, c, f) => Kind::Own,
+            _ => Kind::Neither,
         }
     }
-    if c.ring == 0 {
-        return Kind::Kernel;
-    }
-    if c.cr0 / 2147483648 % 2 == 1 {
-        if is_users(mem, c, f) {
-            return Kind::Own;
-        }
-    }
-    Kind::Neither
 }

@@ -18,17 +18,7 @@ fn names_at(mem: &[u8], c: Control, f: u32, d: u32) -> bool
 pub fn holds_table(mem: &[u8], c: Control, f: u32) -> bool
     ensures { result ≡ holds_table mem.now c f }
 {
-    if f == c.cr3 / 4096 {
-        return true;
-    }
-    let mut d: u32 = 0;
-    while d < 1024 {
-        if names_at(mem, c, f, d) {
-            return true;
-        }
-        d += 1;
-    }
-    false
+    f == c.cr3 / 4096 || (0..1024).any(|d| names_at(mem, c, f, d))
 }
 
 // Does entry i of the table in frame t open frame f to the user for writing?
@@ -42,14 +32,7 @@ fn opens_at(mem: &[u8], t: u32, f: u32, i: u32) -> bool
 fn opens(mem: &[u8], t: u32, f: u32) -> bool
     ensures { result ≡ opened mem.now t f }
 {
-    let mut i: u32 = 0;
-    while i < 1024 {
-        if opens_at(mem, t, f, i) {
-            return true;
-        }
-        i += 1;
-    }
-    false
+    (0..1024).any(|i| opens_at(mem, t, f, i))
 }
 
 // Does entry d of the directory lead to a page behind which the user may write frame f?
@@ -67,12 +50,5 @@ fn leads_at(mem: &[u8], c: Control, f: u32, d: u32) -> bool
 pub fn is_users(mem: &[u8], c: Control, f: u32) -> bool
     ensures { result ≡ users mem.now c f }
 {
-    let mut d: u32 = 0;
-    while d < 1024 {
-        if leads_at(mem, c, f, d) {
-            return true;
-        }
-        d += 1;
-    }
-    false
+    (0..1024).any(|d| leads_at(mem, c, f, d))
 }

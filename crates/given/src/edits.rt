@@ -1,23 +1,46 @@
 // A list of edits as text, a line each: `PASS WAYPOINT lat|lon DELTA`, or `PASS jitter -1|1` for every position.
-use crate::number::{Number, number_at};
-use crate::words;
-use crate::words::Word;
+use crate::Bad;
+use crate::number::number_of;
+use crate::words::{next_line, split_word};
 
 // The last pass that an edit may name.
 pub const LAST_PASS: u32 = 63;
 
-// Waypoint 0 stands for all of them, latitude and longitude both.
-#[derive(Clone, Copy)]
-pub struct Edit {
-    pub pass: u32,
-    pub waypoint: u32,
-    pub longitude: bool,
-    pub down: bool,
+#[derive(Clone, Copy, PartialEq, Eq)]
+pub enum Axis {
+    Latitude,
+    Longitude,
+}
+
+#[derive(Clone, Copy, PartialEq, Eq)]
+pub enum Direction {
+    Up,
+    Down,
+}
+
+// What an edit moves: one position of a waypoint, or by noise in the last bit all of them.
+#[derive(Clone, Copy, PartialEq, Eq)]
+pub enum What {
+    Jitter,
+    Position { waypoint: u32, axis: Axis },
+}
+
+// By so many units of the last bit.
+#[derive(Clone, Copy, PartialEq, Eq)]
+pub struct Shift {
+    pub direction: Direction,
     pub by: u32,
 }
 
+#[derive(Clone, Copy, PartialEq, Eq)]
+pub struct Edit {
+    pub pass: u32,
+    pub what: What,
+    pub shift: Shift,
+}
+
 // What is wrong with a line.
-#[derive(Clone, Copy)]
+#[derive(Clone, Copy, PartialEq, Eq)]
 pub enum Slip {
     Pass,
     Waypoint,
@@ -27,166 +50,94 @@ pub enum Slip {
     MoreAfter,
 }
 
-#[derive(Clone, Copy)]
-pub enum Line {
-    Nothing,
-    Edit(Edit),
-    Wrong(Slip),
-}
-
-#[derive(Clone, Copy)]
-struct Signed {
-    good: bool,
-    down: bool,
-    by: u32,
-}
-
-fn value_or(n: Number, other: u32) -> u32 {
-    let Number::Value(x) = n else {
-        return other;
-    };
-    x
-}
-
-fn starts_with(s: &[u8], at: usize, b: u8) -> bool {
-    if at < s.len() {
-        return s[at] == b;
-    }
-    false
-}
-
 // A number with its sign: - or + or none.
-fn delta(s: &[u8], w: Word) -> Signed {
-    let at = w.at;
-    let down = starts_with(s, at, b'-');
-    let signed = down | starts_with(s, at, b'+');
-    let from = if signed { after(at) } else { at };
-    let n = number_at(
-        s,
-        Word {
-            at: from,
-            end: w.end,
-        },
-        false,
-    );
-    let Number::Value(by) = n else {
-        return Signed {
-            good: false,
-            down,
-            by: 0,
-        };
+fn delta(word: &[u8]) -> Option<Shift> {
+    let (direction, digits) = match word {
+        [b'-', rest @ ..] => (Direction::Down, rest),
+        [b'+', rest @ ..] => (Direction::Up, rest),
+        _ => (Direction::Up, word),
     };
-    Signed {
-        good: true,
-        down,
-        by,
+    let by = number_of(digits)?;
+    Some(Shift { direction, by })
+}
+
+// A number from 1 to last.
+fn number_to(last: u32, word: &[u8]) -> Option<u32> {
+    number_of(word).filter(|n| (1 <= *n) & (*n <= last))
+}
+
+// `lat` or `lon`.
+fn axis_of(word: &[u8]) -> Option<Axis> {
+    match word {
+        b"lat" => Some(Axis::Latitude),
+        b"lon" => Some(Axis::Longitude),
+        _ => None,
     }
 }
 
-fn after(at: usize) -> usize {
-    std::num::wrapping_add_usize(at, 1)
-}
-
-fn finished(s: &[u8], from: usize, e: Edit) -> Line {
-    if words::is_empty(words::word_from(s, from)) {
-        return Line::Edit(e);
+// What stands after the pass: the edit, and what is left of the line.
+fn edit_of(pass: u32, rest: &[u8], waypoints: u32) -> Result<(Edit, &[u8]), Slip> {
+    let (word, rest) = split_word(rest);
+    if word == b"jitter".as_slice() {
+        let (word, rest) = split_word(rest);
+        let shift = delta(word).filter(|d| d.by == 1).ok_or(Slip::Jitter)?;
+        return Ok((
+            Edit {
+                pass,
+                what: What::Jitter,
+                shift,
+            },
+            rest,
+        ));
     }
-    Line::Wrong(Slip::MoreAfter)
-}
-
-// `-1` or `1`, for every position.
-fn jitter(s: &[u8], from: usize, pass: u32) -> Line {
-    let w = words::word_from(s, from);
-    let d = delta(s, w);
-    if !d.good | (d.by != 1) {
-        return Line::Wrong(Slip::Jitter);
-    }
-    finished(
-        s,
-        w.end,
+    let waypoint = number_to(waypoints, word).ok_or(Slip::Waypoint)?;
+    let (word, rest) = split_word(rest);
+    let axis = axis_of(word).ok_or(Slip::Axis)?;
+    let (word, rest) = split_word(rest);
+    let shift = delta(word).ok_or(Slip::Delta)?;
+    Ok((
         Edit {
             pass,
-            waypoint: 0,
-            longitude: false,
-            down: d.down,
-            by: 1,
+            what: What::Position { waypoint, axis },
+            shift,
         },
-    )
+        rest,
+    ))
 }
 
-// `lat` or `lon`, and by how much.
-fn moved(s: &[u8], from: usize, pass: u32, waypoint: u32) -> Line {
-    let axis = words::word_from(s, from);
-    let longitude = words::is(s, axis, b"lon");
-    if !longitude & !words::is(s, axis, b"lat") {
-        return Line::Wrong(Slip::Axis);
+// The edit of a line, if there is one; its waypoint must be one of a plan of `waypoints`.
+fn edit_in(line: &[u8], waypoints: u32) -> Result<Option<Edit>, Slip> {
+    let (word, rest) = split_word(line);
+    if word.is_empty() {
+        return Ok(None);
     }
-    let w = words::word_from(s, axis.end);
-    let d = delta(s, w);
-    if !d.good {
-        return Line::Wrong(Slip::Delta);
+    let pass = number_to(LAST_PASS, word).ok_or(Slip::Pass)?;
+    let (edit, rest) = edit_of(pass, rest, waypoints)?;
+    let (more, _) = split_word(rest);
+    if more.is_empty() {
+        Ok(Some(edit))
+    } else {
+        Err(Slip::MoreAfter)
     }
-    finished(
-        s,
-        w.end,
-        Edit {
-            pass,
-            waypoint,
-            longitude,
-            down: d.down,
-            by: d.by,
-        },
-    )
 }
 
-// The line at `at`; its waypoint must be one of a plan of `waypoints`.
-pub fn edit_at(s: &[u8], at: usize, waypoints: u32) -> Line {
-    let first = words::word_from(s, at);
-    if words::is_empty(first) {
-        return Line::Nothing;
+// The edit of the line at `at`, if there is one; its waypoint must be one of a plan of `waypoints`.
+pub fn edit_at(s: &[u8], at: usize, waypoints: u32) -> Result<Option<Edit>, Slip> {
+    if at < s.len() {
+        return edit_in(&s[at..next_line(s, at)], waypoints);
     }
-    let pass = value_or(number_at(s, first, false), 0);
-    if (pass == 0) | (LAST_PASS < pass) {
-        return Line::Wrong(Slip::Pass);
-    }
-    let second = words::word_from(s, first.end);
-    if words::is(s, second, b"jitter") {
-        return jitter(s, second.end, pass);
-    }
-    let waypoint = value_or(number_at(s, second, false), 0);
-    if (waypoint == 0) | (waypoints < waypoint) {
-        return Line::Wrong(Slip::Waypoint);
-    }
-    moved(s, second.end, pass, waypoint)
+    Ok(None)
 }
 
-// A list of edits that is understood, and the last pass that it names; or the first line that is not.
-#[derive(Clone, Copy)]
-pub enum Listed {
-    Good(u32),
-    Bad(u32, Slip),
-}
-
-fn later(last: u32, l: Line) -> u32 {
-    let Line::Edit(e) = l else {
-        return last;
-    };
-    if last < e.pass { e.pass } else { last }
-}
-
-// Reads every line, for a plan of so many waypoints.
-pub fn check_edits(s: &[u8], waypoints: u32) -> Listed {
+// Reads every line, for a plan of so many waypoints, and answers the last pass that is named; or the first line that is wrong.
+pub fn check_edits(s: &[u8], waypoints: u32) -> Result<u32, Bad<Slip>> {
     let mut last: u32 = 0;
-    let mut at: usize = 0;
+    // Stays: the number of a line has 32 bits and wraps, where `enumerate` would count in 64.
     let mut n: u32 = 1;
-    while at < s.len() {
-        let l = edit_at(s, at, waypoints);
-        if let Line::Wrong(slip) = l {
-            return Listed::Bad(n, slip);
-        }
-        last = later(last, l);
-        at = words::next_line(s, at);
-        n = std::num::wrapping_add_u32(n, 1);
+    for line in s.split(|b| *b == b'\n') {
+        let edit = edit_in(line, waypoints).map_err(|what| Bad { line: n, what })?;
+        last = last.max(edit.map_or(0, |e| e.pass));
+        n = n.wrapping_add(1);
     }
-    Listed::Good(last)
+    Ok(last)
 }

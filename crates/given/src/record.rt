@@ -1,13 +1,12 @@
 // A record as text: a name and a hexadecimal value a line; what is not named is 0.
-use crate::number::{Number, number_at};
-use crate::words;
-use crate::words::Word;
+use crate::Bad;
+use crate::number::hexadecimal_of;
+use crate::words::split_word;
 use machine::{Control, Cpu, Registers};
 
 // What is wrong with a line.
-#[derive(Clone, Copy)]
+#[derive(Clone, Copy, PartialEq, Eq)]
 pub enum Flaw {
-    Nothing,
     UnknownName,
     NamedTwice,
     NoValue,
@@ -15,162 +14,86 @@ pub enum Flaw {
     MoreAfter,
 }
 
-// The first line that is wrong, and what is wrong with it.
-#[derive(Clone, Copy)]
-pub enum Parsed {
-    Good,
-    Bad(u32, Flaw),
-}
+// In the order of the record.
+const NAMES: [&str; 14] = [
+    "EAX", "ECX", "EDX", "EBX", "ESP", "EBP", "ESI", "EDI", "EIP", "EFLAGS", "CR0", "CR2", "CR3",
+    "RING",
+];
 
-// The record, and whether it is to be believed.
-#[derive(Clone, Copy)]
-pub struct Record {
-    pub parsed: Parsed,
-    pub cpu: Cpu,
-}
+// The values named so far, in the order of the names.
+type Values = [Option<u32>; 14];
 
-const NAMES: u32 = 14;
-
-// The place of a name among the values: NAMES where it is none of them.
-fn place(s: &[u8], w: Word) -> u32 {
-    if words::is(s, w, b"EAX") {
-        return 0;
+// The one value that stands after a name.
+fn value(rest: &[u8]) -> Result<u32, Flaw> {
+    let (word, rest) = split_word(rest);
+    if word.is_empty() {
+        return Err(Flaw::NoValue);
     }
-    if words::is(s, w, b"ECX") {
-        return 1;
-    }
-    if words::is(s, w, b"EDX") {
-        return 2;
-    }
-    if words::is(s, w, b"EBX") {
-        return 3;
-    }
-    if words::is(s, w, b"ESP") {
-        return 4;
-    }
-    if words::is(s, w, b"EBP") {
-        return 5;
-    }
-    if words::is(s, w, b"ESI") {
-        return 6;
-    }
-    if words::is(s, w, b"EDI") {
-        return 7;
-    }
-    place_of_control(s, w)
-}
-
-fn place_of_control(s: &[u8], w: Word) -> u32 {
-    if words::is(s, w, b"EIP") {
-        return 8;
-    }
-    if words::is(s, w, b"EFLAGS") {
-        return 9;
-    }
-    if words::is(s, w, b"CR0") {
-        return 10;
-    }
-    if words::is(s, w, b"CR2") {
-        return 11;
-    }
-    if words::is(s, w, b"CR3") {
-        return 12;
-    }
-    if words::is(s, w, b"RING") {
-        return 13;
-    }
-    NAMES
-}
-
-// Takes the value after the name in place k.
-fn take(s: &[u8], from: usize, values: &mut [u32], k: u32) -> Flaw {
-    let w = words::word_from(s, from);
-    if words::is_empty(w) {
-        return Flaw::NoValue;
-    }
-    let n = number_at(s, w, true);
-    let Number::Value(x) = n else {
-        return Flaw::BadValue;
-    };
-    if !words::is_empty(words::word_from(s, w.end)) {
-        return Flaw::MoreAfter;
-    }
-    cells::put_number(values, k, x);
-    Flaw::Nothing
-}
-
-// Takes one line; seen has a 1 for each name that stood before.
-fn line(s: &[u8], at: usize, values: &mut [u32], seen: &mut [u32]) -> Flaw {
-    let w = words::word_from(s, at);
-    if words::is_empty(w) {
-        return Flaw::Nothing;
-    }
-    let k = place(s, w);
-    if k == NAMES {
-        return Flaw::UnknownName;
-    }
-    if cells::number(seen, k) == 1 {
-        return Flaw::NamedTwice;
-    }
-    cells::put_number(seen, k, 1);
-    take(s, w.end, values, k)
-}
-
-fn is_wrong(f: Flaw) -> bool {
-    if let Flaw::Nothing = f { false } else { true }
-}
-
-fn lines(s: &[u8], values: &mut [u32], seen: &mut [u32]) -> Parsed {
-    let mut at: usize = 0;
-    let mut n: u32 = 1;
-    while at < s.len() {
-        let f = line(s, at, values, seen);
-        if is_wrong(f) {
-            return Parsed::Bad(n, f);
-        }
-        at = words::next_line(s, at);
-        n = std::num::wrapping_add_u32(n, 1);
-    }
-    Parsed::Good
-}
-
-fn registers(v: &[u32]) -> Registers {
-    Registers {
-        e: [
-            cells::number(v, 0),
-            cells::number(v, 1),
-            cells::number(v, 2),
-            cells::number(v, 3),
-            cells::number(v, 4),
-            cells::number(v, 5),
-            cells::number(v, 6),
-            cells::number(v, 7),
-        ],
+    let x = hexadecimal_of(word).ok_or(Flaw::BadValue)?;
+    let (more, _) = split_word(rest);
+    if more.is_empty() {
+        Ok(x)
+    } else {
+        Err(Flaw::MoreAfter)
     }
 }
 
-fn cpu(v: &[u32]) -> Cpu {
-    let control = Control {
-        cr0: cells::number(v, 10),
-        cr2: cells::number(v, 11),
-        cr3: cells::number(v, 12),
-        ring: cells::number(v, 13),
-    };
-    let regs = registers(v);
+fn take_line(line: &[u8], values: &mut Values) -> Result<(), Flaw> {
+    let (word, rest) = split_word(line);
+    if word.is_empty() {
+        return Ok(());
+    }
+    let place = NAMES
+        .iter()
+        .position(|name| name.as_bytes() == word)
+        .ok_or(Flaw::UnknownName)?;
+    if values[place].is_some() {
+        return Err(Flaw::NamedTwice);
+    }
+    values[place] = Some(value(rest)?);
+    Ok(())
+}
+
+fn cpu(values: Values) -> Cpu {
+    let [
+        eax,
+        ecx,
+        edx,
+        ebx,
+        esp,
+        ebp,
+        esi,
+        edi,
+        eip,
+        eflags,
+        cr0,
+        cr2,
+        cr3,
+        ring,
+    ] = values.map(|x| x.unwrap_or(0));
     Cpu {
-        regs,
-        eip: cells::number(v, 8),
-        eflags: cells::number(v, 9),
-        control,
+        regs: Registers {
+            e: [eax, ecx, edx, ebx, esp, ebp, esi, edi],
+        },
+        eip,
+        eflags,
+        control: Control {
+            cr0,
+            cr2,
+            cr3,
+            ring,
+        },
     }
 }
 
-pub fn record_of(s: &[u8]) -> Record {
-    let mut values = [0u32; 14];
-    let mut seen = [0u32; 14];
-    let parsed = lines(s, &mut values, &mut seen);
-    Record {
-        parsed,
-        cpu: cpu(&values),
+// The record, or the first line that is wrong.
+pub fn record_of(s: &[u8]) -> Result<Cpu, Bad<Flaw>> {
+    let mut values: Values = [None; 14];
+    // Stays: the number of a line has 32 bits and wraps, where `enumerate` would count in 64.
+    let mut n: u32 = 1;
+    for line in s.split(|b| *b == b'\n') {
+        take_line(line, &mut values).map_err(|what| Bad { line: n, what })?;
+        n = n.wrapping_add(1);
     }
+    Ok(cpu(values))
 }

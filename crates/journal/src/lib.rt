@@ -10,4 +10,4 @@ mod reply;
 pub use explain::explained;
 pub use frame::{Tally, Voice, frames};
 pub use record::{cpu_lines, cpu_table, unsound};
-pub use reply::{number, reply_lines, short};
+pub use reply::{Short, number, reply_lines};

@@ -5,130 +5,84 @@ ghost use Rattle.machine.specs.Record.{ring_sound, cr0_sound, cr3_sound};
 use machine::Cpu;
 use std::io;
 use std::io::Write;
-use text::say;
 
-// The fourteen values of a record, in this order.
-const VALUES: u32 = 14;
-
-fn name<W: Write>(out: &mut W, n: u32) -> io::Result<()> {
-    match n {
-        0 => say(out, b"EAX"),
-        1 => say(out, b"ECX"),
-        2 => say(out, b"EDX"),
-        3 => say(out, b"EBX"),
-        4 => say(out, b"ESP"),
-        5 => say(out, b"EBP"),
-        6 => say(out, b"ESI"),
-        7 => say(out, b"EDI"),
-        8 => say(out, b"EIP"),
-        9 => say(out, b"EFLAGS"),
-        10 => say(out, b"CR0"),
-        11 => say(out, b"CR2"),
-        12 => say(out, b"CR3"),
-        _ => say(out, b"RING"),
-    }
-}
-
-fn value(c: Cpu, n: u32) -> u32 {
-    let r = c.regs;
+// The values of a record with their names, in its order.
+fn values(c: Cpu) -> [(&'static str, u32); 14] {
+    let [eax, ecx, edx, ebx, esp, ebp, esi, edi] = c.regs.e;
     let k = c.control;
-    match n {
-        0..=7 => r.read(n),
-        8 => c.eip,
-        9 => c.eflags,
-        10 => k.cr0,
-        11 => k.cr2,
-        12 => k.cr3,
-        _ => k.ring,
-    }
-}
-
-fn named<W: Write>(out: &mut W, before: &[u8], n: u32, between: &[u8], x: u32) -> io::Result<()> {
-    say(out, before)?;
-    name(out, n)?;
-    say(out, between)?;
-    text::hex(out, x)
+    [
+        ("EAX", eax),
+        ("ECX", ecx),
+        ("EDX", edx),
+        ("EBX", ebx),
+        ("ESP", esp),
+        ("EBP", ebp),
+        ("ESI", esi),
+        ("EDI", edi),
+        ("EIP", c.eip),
+        ("EFLAGS", c.eflags),
+        ("CR0", k.cr0),
+        ("CR2", k.cr2),
+        ("CR3", k.cr3),
+        ("RING", k.ring),
+    ]
 }
 
 // The record as lines `NAME=value`.
 pub fn cpu_lines<W: Write>(out: &mut W, c: Cpu) -> io::Result<()> {
-    let mut n: u32 = 0;
-    while n < VALUES {
-        named(out, b"", n, b"=", value(c, n))?;
-        text::end(out)?;
-        n += 1;
+    for (name, x) in values(c) {
+        writeln!(out, "{name}={x:08X}")?;
     }
     Ok(())
 }
 
-// A line ends after the registers 3 and 7, and after the last value.
-fn break_line<W: Write>(out: &mut W, n: u32) -> io::Result<()> {
-    if (n == 3) | (n == 7) | (n == 13) {
-        text::end(out)?;
+// The values of one line of the table.
+fn line<W: Write>(out: &mut W, values: &[(&str, u32)]) -> io::Result<()> {
+    for (name, x) in values {
+        write!(out, "  {name} {x:08X}")?;
+    }
+    writeln!(out)
+}
+
+const FLAGS: [(u32, &str); 8] = [
+    (0x1, "CF"),
+    (0x4, "PF"),
+    (0x10, "AF"),
+    (0x40, "ZF"),
+    (0x80, "SF"),
+    (0x200, "IF"),
+    (0x400, "DF"),
+    (0x800, "OF"),
+];
+
+const MODES: [(u32, &str); 3] = [(0x1, "PE"), (0x1_0000, "WP"), (0x8000_0000, "PG")];
+
+// The names of the bits that are set.
+fn set_bits<W: Write>(out: &mut W, x: u32, names: &[(u32, &str)]) -> io::Result<()> {
+    for (bit, name) in names {
+        if x & *bit != 0 {
+            write!(out, " {name}")?;
+        }
     }
     Ok(())
 }
 
-fn values<W: Write>(out: &mut W, c: Cpu) -> io::Result<()> {
-    let mut n: u32 = 0;
-    while n < VALUES {
-        named(out, b"  ", n, b" ", value(c, n))?;
-        break_line(out, n)?;
-        n += 1;
-    }
-    Ok(())
-}
-
-fn bit<W: Write>(out: &mut W, x: u32, word: &[u8]) -> io::Result<()> {
-    if x % 2 == 1 {
-        say(out, word)?;
-    }
-    Ok(())
-}
-
-fn status<W: Write>(out: &mut W, e: u32) -> io::Result<()> {
-    bit(out, e, b" CF")?;
-    bit(out, e / 4, b" PF")?;
-    bit(out, e / 16, b" AF")?;
-    bit(out, e / 64, b" ZF")?;
-    bit(out, e / 128, b" SF")
-}
-
-// The flags that are set, and IOPL.
-fn flags<W: Write>(out: &mut W, e: u32) -> io::Result<()> {
-    say(out, b"  flags set:")?;
-    status(out, e)?;
-    bit(out, e / 512, b" IF")?;
-    bit(out, e / 1024, b" DF")?;
-    bit(out, e / 2048, b" OF")?;
-    if e % 4096 == 2 {
-        say(out, b" none")?;
-    }
-    say(out, b", IOPL ")?;
-    text::decimal(out, e / 4096 % 4)
-}
-
-fn modes<W: Write>(out: &mut W, cr0: u32) -> io::Result<()> {
-    say(out, b"; CR0 set:")?;
-    bit(out, cr0, b" PE")?;
-    bit(out, cr0 / 65536, b" WP")?;
-    bit(out, cr0 / 2147483648, b" PG")?;
-    text::end(out)
-}
-
-// Four lines: the registers, the rest of the record, and what its bits say.
+// Four lines: the registers, the rest of the record, and what its bits say: the flags that are set, IOPL and the modes.
 pub fn cpu_table<W: Write>(out: &mut W, c: Cpu) -> io::Result<()> {
-    let k = c.control;
-    values(out, c)?;
-    flags(out, c.eflags)?;
-    modes(out, k.cr0)
-}
-
-fn broken<W: Write>(out: &mut W, name: &[u8], x: u32, rule: &[u8]) -> io::Result<()> {
-    say(out, name)?;
-    say(out, b" is ")?;
-    text::hex(out, x)?;
-    say(out, rule)
+    let all = values(c);
+    line(out, &all[..4])?;
+    line(out, &all[4..8])?;
+    line(out, &all[8..])?;
+    let e = c.eflags;
+    write!(out, "  flags set:")?;
+    set_bits(out, e, &FLAGS)?;
+    if e % 4096 == 2 {
+        write!(out, " none")?;
+    }
+    let iopl = e / 4096 % 4;
+    write!(out, ", IOPL {iopl}; CR0 set:")?;
+    set_bits(out, c.control.cr0, &MODES)?;
+    writeln!(out)
 }
 
 fn is_ring_sound(x: u32) -> bool
@@ -153,35 +107,26 @@ fn is_cr3_sound(x: u32) -> bool
 pub fn unsound<W: Write>(out: &mut W, c: Cpu) -> io::Result<()> {
     let k = c.control;
     let e = c.eflags;
-    if !is_ring_sound(k.ring) {
-        return broken(out, b"RING", k.ring, b"; it must be 0 or 3");
-    }
-    if k.cr0 % 2 == 0 {
-        return broken(out, b"CR0", k.cr0, b"; its bit 0 (PE) must be set");
-    }
-    if !is_cr0_sound(k.cr0) {
-        return broken(
-            out,
-            b"CR0",
+    let (name, x, rule) = if !is_ring_sound(k.ring) {
+        ("RING", k.ring, "it must be 0 or 3")
+    } else if k.cr0 % 2 == 0 {
+        ("CR0", k.cr0, "its bit 0 (PE) must be set")
+    } else if !is_cr0_sound(k.cr0) {
+        (
+            "CR0",
             k.cr0,
-            b"; besides bit 0 only bits 4, 16 (WP) and 31 (PG) may be set",
-        );
-    }
-    if !is_cr3_sound(k.cr3) {
-        return broken(
-            out,
-            b"CR3",
-            k.cr3,
-            b"; its bits 0 to 2 and 5 to 11 must be clear",
-        );
-    }
-    if e / 2 % 2 == 0 {
-        return broken(out, b"EFLAGS", e, b"; its bit 1 must be set");
-    }
-    broken(
-        out,
-        b"EFLAGS",
-        e,
-        b"; besides bit 1 only bits 0, 2, 4, 6, 7 and 9 to 13 may be set",
-    )
+            "besides bit 0 only bits 4, 16 (WP) and 31 (PG) may be set",
+        )
+    } else if !is_cr3_sound(k.cr3) {
+        ("CR3", k.cr3, "its bits 0 to 2 and 5 to 11 must be clear")
+    } else if e / 2 % 2 == 0 {
+        ("EFLAGS", e, "its bit 1 must be set")
+    } else {
+        (
+            "EFLAGS",
+            e,
+            "besides bit 1 only bits 0, 2, 4, 6, 7 and 9 to 13 may be set",
+        )
+    };
+    write!(out, "{name} is {x:08X}; {rule}")
 }

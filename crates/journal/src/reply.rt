@@ -1,33 +1,39 @@
 // A reply by its number and its name, and the numbers that it carries.
-use machine::Reply;
-use std::io;
-use std::io::Write;
-use text::{decimal, say};
+ghost use Rattle.std.specs.Prelude.{◌≡◌};
+ghost use Rattle.machine.specs.Replies.{numbered};
 
-// Name and number, and what tells one fault or trap from another.
-pub fn short<W: Write>(out: &mut W, q: Reply) -> io::Result<()> {
-    match q {
-        Reply::Done => say(out, b"0 Done"),
-        Reply::Fault(vector, _, _) => {
-            say(out, b"1 Fault ")?;
-            decimal(out, vector)
+use machine::Reply;
+use std::io::Write;
+use std::{fmt, io};
+
+// Prints number and name, and what tells one fault or trap from another.
+#[derive(Clone, Copy)]
+pub struct Short(pub Reply);
+
+impl fmt::Display for Short {
+    fn fmt<W: fmt::Write>(&self, f: &mut fmt::Formatter<W>) -> fmt::Result {
+        let n = number(self.0);
+        match self.0 {
+            Reply::Done => write!(f, "{n} Done"),
+            Reply::Fault(vector, _, _) => write!(f, "{n} Fault {vector}"),
+            Reply::Trap(vector, _) => write!(f, "{n} Trap {vector}"),
+            Reply::Halt(_) => write!(f, "{n} Halt"),
+            Reply::BadRecord => write!(f, "{n} Bad record"),
+            Reply::NoMemory(_) => write!(f, "{n} No memory there"),
+            Reply::NotBuilt(_) => write!(f, "{n} Not built"),
+            Reply::Spent => write!(f, "{n} Spent"),
+            Reply::Safe => write!(f, "{n} Safe"),
+            Reply::TableOutside(_) => write!(f, "{n} Table outside"),
+            Reply::Exposed(_) => write!(f, "{n} Exposed"),
         }
-        Reply::Trap(vector, _) => {
-            say(out, b"2 Trap ")?;
-            decimal(out, vector)
-        }
-        Reply::Halt(_) => say(out, b"3 Halt"),
-        Reply::BadRecord => say(out, b"4 Bad record"),
-        Reply::NoMemory(_) => say(out, b"5 No memory there"),
-        Reply::NotBuilt(_) => say(out, b"6 Not built"),
-        Reply::Spent => say(out, b"7 Spent"),
-        Reply::Safe => say(out, b"8 Safe"),
-        Reply::TableOutside(_) => say(out, b"9 Table outside"),
-        Reply::Exposed(_) => say(out, b"10 Exposed"),
     }
 }
 
-pub fn number(q: Reply) -> u32 {
+// Stays: the number is what a script reads, and the definition of the replies gives it.
+#[tactic(auto, unfolding(machine::specs::Replies::numbered))]
+pub fn number(q: Reply) -> u32
+    ensures { result ≡ (numbered q).number }
+{
     match q {
         Reply::Done => 0,
         Reply::Fault(_, _, _) => 1,
@@ -43,36 +49,25 @@ pub fn number(q: Reply) -> u32 {
     }
 }
 
-fn address<W: Write>(out: &mut W, key: &[u8], name: &[u8], x: u32) -> io::Result<()> {
-    say(out, key)?;
-    say(out, b".")?;
-    text::address_line(out, name, x)
-}
-
-fn count<W: Write>(out: &mut W, key: &[u8], name: &[u8], x: u32) -> io::Result<()> {
-    say(out, key)?;
-    say(out, b".")?;
-    text::count_line(out, name, x)
-}
-
 // `key=number`, and a line `key.name=value` for each value that the reply carries.
-pub fn reply_lines<W: Write>(out: &mut W, key: &[u8], q: Reply) -> io::Result<()> {
-    text::count_line(out, key, number(q))?;
+pub fn reply_lines<W: Write>(out: &mut W, key: &str, q: Reply) -> io::Result<()> {
+    let n = number(q);
+    writeln!(out, "{key}={n}")?;
     match q {
         Reply::Fault(vector, code, at) => {
-            count(out, key, b"vector", vector)?;
-            count(out, key, b"code", code)?;
-            address(out, key, b"address", at)
+            writeln!(out, "{key}.vector={vector}")?;
+            writeln!(out, "{key}.code={code}")?;
+            writeln!(out, "{key}.address={at:08X}")
         }
         Reply::Trap(vector, next) => {
-            count(out, key, b"vector", vector)?;
-            address(out, key, b"next", next)
+            writeln!(out, "{key}.vector={vector}")?;
+            writeln!(out, "{key}.next={next:08X}")
         }
-        Reply::Halt(next) => address(out, key, b"next", next),
-        Reply::NoMemory(at) => address(out, key, b"physical", at),
-        Reply::NotBuilt(eip) => address(out, key, b"eip", eip),
-        Reply::TableOutside(index) => count(out, key, b"index", index),
-        Reply::Exposed(page) => address(out, key, b"page", page),
+        Reply::Halt(next) => writeln!(out, "{key}.next={next:08X}"),
+        Reply::NoMemory(at) => writeln!(out, "{key}.physical={at:08X}"),
+        Reply::NotBuilt(eip) => writeln!(out, "{key}.eip={eip:08X}"),
+        Reply::TableOutside(index) => writeln!(out, "{key}.index={index}"),
+        Reply::Exposed(page) => writeln!(out, "{key}.page={page:08X}"),
         Reply::Done | Reply::BadRecord | Reply::Spent | Reply::Safe => Ok(()),
     }
 }

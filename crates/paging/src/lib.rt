@@ -4,7 +4,7 @@
 ghost use Rattle.std.specs.Prelude.{◌≡◌, Bool, true, false, cond, ℕ, ◌+◌, ◌*◌, ◌/◌, ◌%◌, ◌<◌, ◌≤◌, ◌^◌, length, eqb};
 ghost use Rattle.machine.specs.Record.{at};
 ghost use Rattle.machine.specs.Paging.{dword_at, slot, rights, page_fault};
-ghost use Rattle.paging.specs.Walked.{OnPage, Flat, Walked};
+ghost use Rattle.paging.specs.Walked.{present_at, OnPage, Flat, Walked};
 
 use machine::{Control, Reply};
 
@@ -23,30 +23,25 @@ impl Physical {
     }
 }
 
-// The entries that a translation went through, directory and table: none with paging off.
+// The entries that a translation went through.
 #[derive(Clone, Copy)]
-pub enum Marks {
-    None,
-    Entries(Physical, Physical),
+pub struct Entries {
+    pub dir: Physical,
+    pub table: Physical,
 }
 
+// Where a translation came to, and the entries to mark: none with paging off.
 #[derive(Clone, Copy)]
-pub enum Translated {
-    Reached(Physical, Marks),
-    Denied(Reply),
-}
-
-fn wide(x: u8) -> u32
-    ensures { (result ≡ x) × (result < 256) }
-{
-    x as u32
+pub struct Reached {
+    pub place: Physical,
+    pub entries: Option<Entries>,
 }
 
 // The byte at an index: 0 past the end.
 pub fn byte_at(mem: &[u8], i: usize) -> u32
     ensures { (result ≡ at mem.now i) × (result < 256) }
 {
-    if i < mem.len() { wide(mem[i]) } else { 0 }
+    u32::from(cells::get(mem, i, 0))
 }
 
 // The byte at an index that is there.
@@ -54,17 +49,19 @@ pub fn present_byte(mem: &[u8], i: usize) -> u32
     requires { i < length mem.now }
     ensures { (result ≡ at mem.now i) × (result < 256) }
 {
-    wide(mem[i])
+    u32::from(mem[i])
 }
 
 fn slow(mem: &[u8], i: usize) -> u32
     requires { i < 2 ^ 46 }
     ensures { result ≡ dword_at mem.now i }
 {
-    byte_at(mem, i)
-        + 256 * byte_at(mem, i + 1)
-        + 65536 * byte_at(mem, i + 2)
-        + 16777216 * byte_at(mem, i + 3)
+    u32::from_le_bytes([
+        cells::get(mem, i, 0),
+        cells::get(mem, i + 1, 0),
+        cells::get(mem, i + 2, 0),
+        cells::get(mem, i + 3, 0),
+    ])
 }
 
 // The dword at an index, where all of it is there.
@@ -72,7 +69,7 @@ pub fn present_dword(mem: &[u8], i: usize) -> u32
     requires { i + 3 < length mem.now }
     ensures { result ≡ dword_at mem.now i }
 {
-    wide(mem[i]) + 256 * wide(mem[i + 1]) + 65536 * wide(mem[i + 2]) + 16777216 * wide(mem[i + 3])
+    u32::from_le_bytes([mem[i], mem[i + 1], mem[i + 2], mem[i + 3]])
 }
 
 // The dword at an index: bytes past the end are 0.
@@ -128,51 +125,60 @@ fn absent(c: Control, w: bool, l: Linear) -> Reply
     Reply::Fault(14, code(0, w, c.ring), l.0)
 }
 
-fn walk(mem: &[u8], c: Control, w: bool, l: Linear) -> Translated
+// The entry at a physical address; absent: the reply where it names nothing.
+#[tactic(auto, unfolding(crate::specs::Walked::present_at))]
+fn present(mem: &[u8], p: Physical, absent: Reply) -> Result<u32, Reply>
+    ensures { result ≡ present_at mem.now p.0 absent }
+{
+    if mem.len() <= p.0 as usize {
+        return Err(Reply::NoMemory(p.0));
+    }
+    let e = dword_at(mem, p);
+    if e % 2 != 1 {
+        return Err(absent);
+    }
+    Ok(e)
+}
+
+fn walk(mem: &[u8], c: Control, w: bool, l: Linear) -> Result<Reached, Reply>
     ensures { OnPage mem.now c w l.0 result }
 {
-    let d = Physical(c.cr3 / 4096 * 4096 + l.0 / 4194304 * 4);
-    if mem.len() <= d.0 as usize {
-        return Translated::Denied(Reply::NoMemory(d.0));
-    }
-    let pde = dword_at(mem, d);
-    if pde % 2 != 1 {
-        return Translated::Denied(absent(c, w, l));
-    }
-    let t = Physical(pde / 4096 * 4096 + l.0 / 4096 % 1024 * 4);
-    if mem.len() <= t.0 as usize {
-        return Translated::Denied(Reply::NoMemory(t.0));
-    }
-    let pte = dword_at(mem, t);
-    if pte % 2 != 1 {
-        return Translated::Denied(absent(c, w, l));
-    }
+    let absent = absent(c, w, l);
+    let dir = Physical(c.cr3 / 4096 * 4096 + l.0 / 4194304 * 4);
+    let pde = present(mem, dir, absent)?;
+    let table = Physical(pde / 4096 * 4096 + l.0 / 4096 % 1024 * 4);
+    let pte = present(mem, table, absent)?;
     let us = (pde / 4 % 2 == 1) & (pte / 4 % 2 == 1);
     let rw = (pde / 2 % 2 == 1) & (pte / 2 % 2 == 1);
-    let p = Physical(pte / 4096 * 4096 + l.0 % 4096);
-    let i = p.0 as usize;
+    let place = Physical(pte / 4096 * 4096 + l.0 % 4096);
+    let i = place.0 as usize;
     if !allowed(c, w, us, rw) {
-        return Translated::Denied(Reply::Fault(14, code(1, w, c.ring), l.0));
+        return Err(Reply::Fault(14, code(1, w, c.ring), l.0));
     }
     if mem.len() <= i {
-        return Translated::Denied(Reply::NoMemory(p.0));
+        return Err(Reply::NoMemory(place.0));
     }
-    Translated::Reached(p, Marks::Entries(d, t))
+    Ok(Reached {
+        place,
+        entries: Some(Entries { dir, table }),
+    })
 }
 
 // With paging off the linear address is the physical one.
-fn flat(mem: &[u8], l: Linear) -> Translated
+fn flat(mem: &[u8], l: Linear) -> Result<Reached, Reply>
     ensures { Flat mem.now l.0 result }
 {
-    if (l.0 as usize) < mem.len() {
-        Translated::Reached(Physical(l.0), Marks::None)
-    } else {
-        Translated::Denied(Reply::NoMemory(l.0))
+    if mem.len() <= l.0 as usize {
+        return Err(Reply::NoMemory(l.0));
     }
+    Ok(Reached {
+        place: Physical(l.0),
+        entries: None,
+    })
 }
 
 // From a linear address to a physical one, or the refusal; w: is it a write.
-pub fn translate(mem: &[u8], c: Control, w: bool, l: Linear) -> Translated
+pub fn translate(mem: &[u8], c: Control, w: bool, l: Linear) -> Result<Reached, Reply>
     ensures { Walked mem.now c w l.0 result }
 {
     if c.cr0 / 2147483648 % 2 == 1 {

@@ -1,7 +1,8 @@
 -- From the code's plan to the definition's step, one law for each place where a plan is made. Assumes nothing.
 use Prim.Native.Nat.{ℕ}
+use Rattle.std.specs.Prelude.{Ok, Err}
 use mathlib.Core.Path.{◌≡◌, refl, sym, ap, ◌∙◌}
-use mathlib.Core.Bool.{Bool, true, false, false≢true}
+use mathlib.Core.Bool.{true, false}
 use mathlib.Core.List.{List, [], ◌∷◌, ◌++◌, append_assoc}
 use Rattle.machine.specs.declared.Control.{Control}
 use Rattle.machine.specs.declared.Core.{Core}
@@ -16,15 +17,11 @@ use Rattle.machine.specs.Commit.{Patch, Store, patches, touched, written, stored
 use Rattle.machine.specs.Run.{Plan, settle}
 use Rattle.machine.specs.Act.{Log, ok, refuse, access, store, stores_of, noting, ended, plan_of}
 use Rattle.access.specs.declared.Access.{Access}
-use Rattle.access.specs.declared.Located.{Located}
-use Rattle.access.specs.declared.Located.TheVariants.{Here, No}
 use Rattle.access.specs.Located.{span, touches_of, puts, Held, LocatedOk}
 use Rattle.access.proofs.Marks.{patches_append, touched_append}
 use Rattle.encoding.specs.declared.Instruction.{Instruction}
 use Rattle.fetch.specs.Read.{log_at}
 use Rattle.decode.specs.Decode.{decode}
-use Rattle.decode.specs.declared.Decoded.{Decoded}
-use Rattle.decode.specs.declared.Decoded.TheVariants.{Ready, Unready}
 use Rattle.decode.specs.Read.{ready_of}
 use Rattle.decode.proofs.Cap.{fetched_within}
 use native.Mathlib.Omega.{arith}
@@ -32,7 +29,7 @@ use Rattle.operands.specs.declared.Effect.{Effect}
 use Rattle.execute.specs.Execute.{permitted, first, second, compute}
 use Rattle.phases.specs.declared.Planned.{Planned}
 use Rattle.phases.specs.Step.{allowed, leave, instruction, micro32}
-use Rattle.phases.specs.Planned.{unready_of, gone_of, stopped_of, access_marks, left, outcome_of, PlanOk}
+use Rattle.phases.specs.Planned.{access_marks, left, outcome_of, PlanOk}
 
 written_append : (m : Mem) (c : Control) (ss us : List Store) → written m c (ss ++ us) ≡ written m c ss ++ written m c us
 unfolding written
@@ -48,16 +45,16 @@ module _ (m : Mem) (r : Cpu) where
   abbrev planned : Plan
   planned = micro32 (core_of r) (iopl r.eflags) r.control.ring shown
 
-  stops : {k : Core} {q : Reply} → settle m r planned ≡ record { reply = q; cpu = r; mem = m } → PlanOk m r (stopped_of k q)
+  stops : {q : Reply} → settle m r planned ≡ record { reply = q; cpu = r; mem = m } → PlanOk m r (Err q)
   unfolding outcome_of
-  stops e = record { does = sym e; long = λ h. absurd (false≢true h); short = λ h. absurd (false≢true h) }
+  stops e = record { does = sym e; long = tt; short = tt }
 
-  stop_decode : {k : Core} {q : Reply} → decode r.eip shown (log_at r.eip 0) ≡ refuse q → PlanOk m r (stopped_of k q)
+  stop_decode : {q : Reply} → decode r.eip shown (log_at r.eip 0) ≡ refuse q → PlanOk m r (Err q)
   unfolding micro32 instruction plan_of span settle
   stop_decode e = stops (rw e)
 
   module _ (i : Instruction) (de : decode r.eip shown (log_at r.eip 0) ≡ ok i (log_at r.eip i.length)) where
-    stop_forbidden : {k : Core} → permitted i (iopl r.eflags) r.control.ring ≡ false → PlanOk m r (stopped_of k (Fault 13 0 0))
+    stop_forbidden : permitted i (iopl r.eflags) r.control.ring ≡ false → PlanOk m r (Err (Fault 13 0 0))
     unfolding micro32 instruction plan_of span settle allowed
     stop_forbidden e = stops (rw (de, e))
 
@@ -68,7 +65,7 @@ module _ (m : Mem) (r : Cpu) where
       abbrev two : Want
       two = second i r.regs
 
-      stop_first : {k : Core} {q : Reply} → ((g : Log) → access one shown g ≡ refuse q) → PlanOk m r (stopped_of k q)
+      stop_first : {q : Reply} → ((g : Log) → access one shown g ≡ refuse q) → PlanOk m r (Err q)
       unfolding micro32 instruction plan_of span settle allowed
       stop_first e = stops (rw (de, pe, e (log_at r.eip i.length)))
 
@@ -76,7 +73,7 @@ module _ (m : Mem) (r : Cpu) where
         abbrev noted_one : Log
         noted_one = noting (log_at r.eip i.length) (touches_of one)
 
-        stop_second : {k : Core} {q : Reply} → ((g : Log) → access two shown g ≡ refuse q) → PlanOk m r (stopped_of k q)
+        stop_second : {q : Reply} → ((g : Log) → access two shown g ≡ refuse q) → PlanOk m r (Err q)
         unfolding micro32 instruction plan_of span settle allowed
         stop_second e = stops (rw (de, pe, ha.does (log_at r.eip i.length), e noted_one))
 
@@ -106,55 +103,60 @@ module _ (m : Mem) (r : Cpu) where
               ∙ (λ j. patches (stores_left p.value j) (marks_left j))
               ∙ patches_append (puts a p.value) (puts b p.value) _))
 
-          settled : (e : Effect) (d : Bool) → is_done e.reply ≡ d
-              → outcome_of m r (record { done = d; reply = e.reply; core = e.core; value = e.value; length = i.length; first = a; second = b })
-              ≡ settle m r (ended (leave one two e shown (noting noted_one (touches_of two))))
-          unfolding outcome_of settle leave store
-          settled e true h = rw h (λ j. record { reply = Done; cpu = with_core r e.core; mem = memory_left (record { done = true; reply = e.reply; core = e.core; value = e.value; length = i.length; first = a; second = b }) refl refl j })
-          settled e false h = rw h
+          module _ (e : Effect) (ee : e ≡ compute i (core_of r) a.value) where
+            effect_left : settle m r planned ≡ settle m r (ended (leave one two e shown (noting noted_one (touches_of two))))
+            effect_left = ap (settle m r) (went_through ∙ sym (ap (λ (x : Effect). ended (leave one two x shown (noting noted_one (touches_of two)))) ee))
 
-          pub ready : (e : Effect) {d : Bool} → e ≡ compute i (core_of r) a.value → d ≡ is_done e.reply
-              → PlanOk m r (record { done = d; reply = e.reply; core = e.core; value = e.value; length = i.length; first = a; second = b })
-          ready e {d = d} ee ed =
-              let n = fetched_within r.eip i.length shown i de in
-              record {
-                does = settled e d (sym ed) ∙ ap (settle m r) (ap (λ (x : Effect). ended (leave one two x shown (noting noted_one (touches_of two)))) ee ∙ sym went_through);
-                long = λ _. n.0;
-                short = λ _. omega (arith, n.1);
-              }
+            pub idle : is_done e.reply ≡ false → PlanOk m r (Err e.reply)
+            unfolding settle leave
+            idle h = stops (effect_left ∙ rw h)
+
+            abbrev plan_of_it : Planned
+            plan_of_it = record { core = e.core; value = e.value; length = i.length; first = a; second = b }
+
+            settled : is_done e.reply ≡ true → outcome_of m r (Ok plan_of_it) ≡ settle m r (ended (leave one two e shown (noting noted_one (touches_of two))))
+            unfolding outcome_of settle leave store
+            settled h = rw h (λ j. record { reply = Done; cpu = with_core r e.core; mem = memory_left plan_of_it refl refl j })
+
+            pub ready : is_done e.reply ≡ true → PlanOk m r (Ok plan_of_it)
+            ready h =
+                let n = fetched_within r.eip i.length shown i de in
+                record {
+                  does = settled h ∙ sym effect_left;
+                  long = n.0;
+                  short = omega (arith, n.1);
+                }
 
 -- ---- the same, from what the code's calls answered
 
-held_there : (m : Mem) (c : Control) {t t' : Want} {l : Located} {a : Access} → t ≡ t' → LocatedOk m c t l → l ≡ Here a → Held m c t' a
-held_there m c e h f = rw (← e) (rw f at h)
+module _ (m : Mem) (r : Cpu) where
+  pub at_unready : {q : Reply} → ready_of r.eip (Err q) ≡ decode r.eip (view m r.control) (log_at r.eip 0) → PlanOk m r (Err q)
+  at_unready e = stop_decode m r (sym e)
 
-nowhere_there : (m : Mem) (c : Control) {t t' : Want} {l : Located} {q k : Reply} → t ≡ t' → LocatedOk m c t l → l ≡ No q → k ≡ gone_of l
-    → (g : Log) → access t' (view m c) g ≡ refuse k
-nowhere_there m c e h f n g = rw (← e) ((rw f at h) g ∙ ap refuse (sym (n ∙ ap gone_of f)))
+  module _ {i : Instruction} (e : ready_of r.eip (Ok i) ≡ decode r.eip (view m r.control) (log_at r.eip 0)) where
+    pub at_forbidden : permitted i (iopl r.eflags) r.control.ring ≡ false → PlanOk m r (Err (Fault 13 0 0))
+    at_forbidden off = stop_forbidden m r i (sym e) off
 
-module _ (m : Mem) (r : Cpu) {d : Decoded} (e : ready_of r.eip d ≡ decode r.eip (view m r.control) (log_at r.eip 0)) where
-  pub at_unready : {q k' : Reply} {k : Core} {p : Planned} → d ≡ Unready q → k' ≡ unready_of d → p ≡ stopped_of k k' → PlanOk m r p
-  at_unready f g h = rw h (stop_decode m r (sym e ∙ ap (ready_of r.eip) f ∙ ap refuse (sym (g ∙ ap unready_of f))))
+    module _ (on : permitted i (iopl r.eflags) r.control.ring ≡ true) {t : Want} (et : t ≡ first i r.regs) where
+      pub at_first : {q : Reply} → LocatedOk m r.control t (Err q) → PlanOk m r (Err q)
+      at_first out = stop_first m r i (sym e) on (rw (← et) out)
 
-  module _ (i : Instruction) (f : d ≡ Ready i) where
-    decoded : decode r.eip (view m r.control) (log_at r.eip 0) ≡ ok i (log_at r.eip i.length)
-    decoded = sym e ∙ ap (ready_of r.eip) f
-
-    pub at_forbidden : {b : Bool} {k : Core} {p : Planned} → b ≡ permitted i (iopl r.eflags) r.control.ring → b ≡ false → p ≡ stopped_of k (Fault 13 0 0) → PlanOk m r p
-    at_forbidden g b h = rw h (stop_forbidden m r i decoded (sym g ∙ b))
-
-    module _ {b : Bool} (g : b ≡ permitted i (iopl r.eflags) r.control.ring) (on : b ≡ true) {t : Want} (et : t ≡ first i r.regs) (l : Located) (ok' : LocatedOk m r.control t l) where
-      pub at_first : {q k' : Reply} {k : Core} {p : Planned} → l ≡ No q → k' ≡ gone_of l → p ≡ stopped_of k k' → PlanOk m r p
-      at_first out n h = rw h (stop_first m r i decoded (sym g ∙ on) (nowhere_there m r.control et ok' out n))
-
-      module _ (a : Access) (here : l ≡ Here a) {u : Want} (eu : u ≡ second i r.regs) (l₂ : Located) (ok₂ : LocatedOk m r.control u l₂) where
+      module _ {a : Access} (here : LocatedOk m r.control t (Ok a)) {u : Want} (eu : u ≡ second i r.regs) where
         held : Held m r.control (first i r.regs) a
-        held = held_there m r.control et ok' here
+        held = rw (← et) here
 
-        pub at_second : {q k' : Reply} {k : Core} {p : Planned} → l₂ ≡ No q → k' ≡ gone_of l₂ → p ≡ stopped_of k k' → PlanOk m r p
-        at_second out n h = rw h (stop_second m r i decoded (sym g ∙ on) a held (nowhere_there m r.control eu ok₂ out n))
+        pub at_second : {q : Reply} → LocatedOk m r.control u (Err q) → PlanOk m r (Err q)
+        at_second out = stop_second m r i (sym e) on a held (rw (← eu) out)
 
-        pub at_ready : (b₂ : Access) → l₂ ≡ Here b₂ → (x : Effect) {k : Core} {z : Bool} → k ≡ core_of r → x ≡ compute i k a.value → z ≡ is_done x.reply
-            → PlanOk m r (record { done = z; reply = x.reply; core = x.core; value = x.value; length = i.length; first = a; second = b₂ })
-        at_ready b₂ there x ek ex ez =
-            ready m r i decoded (sym g ∙ on) a held b₂ (held_there m r.control eu ok₂ there) x (ex ∙ ap (λ (y : Core). compute i y a.value) ek) ez
+        module _ {b : Access} (there : LocatedOk m r.control u (Ok b)) (x : Effect) {k : Core} (ek : k ≡ core_of r) (ex : x ≡ compute i k a.value) where
+          held_too : Held m r.control (second i r.regs) b
+          held_too = rw (← eu) there
+
+          computed : x ≡ compute i (core_of r) a.value
+          computed = ex ∙ ap (λ (y : Core). compute i y a.value) ek
+
+          pub at_idle : is_done x.reply ≡ false → PlanOk m r (Err x.reply)
+          at_idle = idle m r i (sym e) on a held b held_too x computed
+
+          pub at_ready : is_done x.reply ≡ true → PlanOk m r (Ok (record { core = x.core; value = x.value; length = i.length; first = a; second = b }))
+          at_ready = ready m r i (sym e) on a held b held_too x computed

@@ -1,5 +1,7 @@
 -- From a plan to the step. Assumes nothing.
 use Prim.Native.Nat.{ℕ, ◌%◌}
+use Rattle.std.specs.Prelude.{Result, Ok, Err}
+use Rattle.machine.specs.declared.Reply.{Reply}
 use mathlib.Core.Path.{◌≡◌, refl, sym, ap, ◌∙◌}
 use mathlib.Core.Bool.{Bool, true, false, ◌&&◌}
 use borrow.Author.Tests.{eqb-true}
@@ -7,10 +9,10 @@ use lib.Dec.{eqb, leb}
 use Rattle.machine.specs.declared.Cpu.{Cpu}
 use Rattle.machine.specs.declared.Reply.TheVariants.{Done, BadRecord}
 use Rattle.machine.specs.Record.{Mem, sound, sound_at, size_sound, ring_sound, cr0_sound, cr3_sound, flags_sound, with_core}
-use Rattle.machine.specs.Commit.{patches, touched}
+use Rattle.machine.specs.Commit.{patches}
 use Rattle.machine.specs.Run.{checked, step}
 use Rattle.access.specs.declared.Trail.{Trail}
-use Rattle.access.specs.Located.{span, trail_marks, TrailOk}
+use Rattle.access.specs.Located.{trail_marks, TrailOk}
 use Rattle.phases.specs.declared.Planned.{Planned}
 use Rattle.phases.specs.Step.{micro32}
 use Rattle.phases.specs.Planned.{left, outcome_of, PlanOk}
@@ -39,20 +41,17 @@ module _ (m : Mem) (r : Cpu) where
   unfolding step checked
   step_bad h = rw h
 
-  module _ (p : Planned) (good : sound m r ≡ true) (k : PlanOk m r p) where
-    from_plan : outcome_of m r p ≡ step micro32 m r
+  module _ (good : sound m r ≡ true) where
+    from_plan : (p : Result Planned Reply) → PlanOk m r p → outcome_of m r p ≡ step micro32 m r
     unfolding step checked
-    from_plan = rw good k.does
+    from_plan p k = rw good k.does
 
-    pub step_off : p.done ≡ false → record { reply = p.reply; cpu = r; mem = m } ≡ step micro32 m r
+    pub step_off : (q : Reply) → PlanOk m r (Err q) → record { reply = q; cpu = r; mem = m } ≡ step micro32 m r
     unfolding outcome_of
-    step_off h = (rw h) ∙ from_plan
+    step_off q k = from_plan (Err q) k
 
-    pub step_on : p.done ≡ true → (t : Trail) {m₁ m₂ : Mem} {r' : Cpu} → TrailOk m r.control r.eip p.length t → m₁ ≡ patches (trail_marks false t) m
+    pub step_on : (p : Planned) → PlanOk m r (Ok p) → (t : Trail) {m₁ m₂ : Mem} {r' : Cpu} → TrailOk m r.control r.eip p.length t → m₁ ≡ patches (trail_marks false t) m
         → m₂ ≡ left p m₁ → r' ≡ with_core r p.core → record { reply = Done; cpu = r'; mem = m₂ } ≡ step micro32 m r
     unfolding outcome_of
-    step_on h t o e₁ e₂ e₃ =
-        (λ j. record { reply = Done; cpu = e₃ j; mem = (e₂ ∙ ap (left p) (e₁ ∙ sym (o m))) j }) ∙ done_is ∙ from_plan
-      where
-        done_is : record { reply = Done; cpu = with_core r p.core; mem = left p (patches (touched m r.control (span false r.eip p.length)) m) } ≡ outcome_of m r p
-        done_is = rw h
+    step_on p k t o e₁ e₂ e₃ =
+        (λ j. record { reply = Done; cpu = e₃ j; mem = (e₂ ∙ ap (left p) (e₁ ∙ sym (o m))) j }) ∙ from_plan (Ok p) k

@@ -24,9 +24,7 @@ impl fmt::Display for Counted<'_> {
 // What the system says of an error, without the error's number, and at most 128 bytes of it.
 pub fn reason<W: Write>(out: &mut W, e: io::Error) -> io::Result<()> {
     let mut words: ArrayVec<u8, 128> = ArrayVec::new();
-    match write!(words, "{e}") {
-        Ok(()) | Err(_) => {}
-    }
+    let _ = write!(words, "{e}");
     let all = words.as_slice();
     let number = all.windows(11).position(|w| w == b" (os error ".as_slice());
     out.write_all(&all[..number.unwrap_or(all.len())])

@@ -1,28 +1,28 @@
-use Rattle.fetch.proofs.Laws.{got, missed, byte_small}
+use Rattle.fetch.proofs.Laws.{got, missed}
 use Rattle.decode.specs.Decode.{opcode, escaped}
-use Rattle.decode.proofs.Laws.{got_below}
 use borrow.Author.Tests.{eq-eqb, ne_eqb}
 use native.Mathlib.Omega.{arith}
+use Rattle.std.proofs.lemmas.Result.{err_from_is_err_and}
 use Rattle.decode.proofs.opcode.Goals as goal
 
-pub returns-in_default : goal.returns-in_default
+pub returns-in_err-first : goal.returns-in_err-first
 unfolding opcode escaped
-returns-in_default c = record { does = rw (missed _ c.prefixed-r0.ensures.does c.in_default.is c.miss.ensures); small = tt }
+returns-in_err-first c = let p = err_from_is_err_and c.from_residual.result c.from_residual.ensures.1 in rw (p.1, p.2) (record { does = rw (missed c.args.s.now.eip c.in_err-first.ensures.does); small = tt })
 
 pub class_in-requires : goal.class_in-requires
-class_in-requires c = (c.requires.1, (let s = got_below 256 c.in-Got.is c.prefixed-r0.ensures.small in omega (arith, s)))
+class_in-requires c = (c.requires, omega (arith, c.in_ok-first.ensures.small))
 
 pub returns-then-class_in-ne-ESCAPE : goal.returns-then-class_in-ne-ESCAPE
 unfolding opcode escaped
-returns-then-class_in-ne-ESCAPE c = record { does = rw (got _ c.prefixed-r0.ensures.does c.in-Got.is, ← c.class_in.ensures, ne_eqb _ _ c.if-class_in-ne-ESCAPE.true); small = let s = got_below 256 c.in-Got.is c.prefixed-r0.ensures.small in omega (arith, s) }
+returns-then-class_in-ne-ESCAPE c = record { does = rw (got c.args.s.now.eip c.in_ok-first.ensures.does, ← c.class_in.ensures, ne_eqb _ _ c.if-class_in-ne-ESCAPE.true); small = omega (arith, c.in_ok-first.ensures.small) }
 
-pub returns-in_default-r1 : goal.returns-in_default-r1
+pub returns-in_err-second : goal.returns-in_err-second
 unfolding opcode escaped
-returns-in_default-r1 c = record { does = rw (got _ c.prefixed-r0.ensures.does c.in-Got.is, ← c.class_in.ensures, eq-eqb _ _ c.if-class_in-ne-ESCAPE.false, missed _ c.fetch-r1.ensures.does c.in_default-r1.is c.miss-in_default-r1.ensures); small = tt }
+returns-in_err-second c = let p = err_from_is_err_and c.from_residual-in_err-second.result c.from_residual-in_err-second.ensures.1 in rw (p.1, p.2) (record { does = rw (got c.args.s.now.eip c.in_ok-first.ensures.does, ← c.class_in.ensures, eq-eqb _ _ c.if-class_in-ne-ESCAPE.false, missed c.args.s.now.eip c.in_err-second.ensures.does); small = tt })
 
 pub overflow_add-result : goal.overflow_add-result
-overflow_add-result c = let s = byte_small _ c.in-Got-r1.is c.fetch-r1.ensures.small in omega (arith, s.0)
+overflow_add-result c = omega (arith, c.in_ok-second.ensures.small.0)
 
 pub returns : goal.returns
 unfolding opcode escaped
-returns c = record { does = rw (got _ c.prefixed-r0.ensures.does c.in-Got.is, ← c.class_in.ensures, eq-eqb _ _ c.if-class_in-ne-ESCAPE.false, got _ c.fetch-r1.ensures.does c.in-Got-r1.is); small = let s = byte_small _ c.in-Got-r1.is c.fetch-r1.ensures.small in omega (arith, s.0) }
+returns c = record { does = rw (got c.args.s.now.eip c.in_ok-first.ensures.does, ← c.class_in.ensures, eq-eqb _ _ c.if-class_in-ne-ESCAPE.false, got c.args.s.now.eip c.in_ok-second.ensures.does); small = omega (arith, c.in_ok-second.ensures.small.0) }

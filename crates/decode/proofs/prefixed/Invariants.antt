@@ -1,12 +1,9 @@
-use Prim.Native.Nat.{◌-◌, ◌≤◌}
-use Rattle.machine.specs.Paging.{view}
+use Prim.Native.Nat.{◌-◌}
+use Rattle.decode.specs.Read.{shown}
 use Rattle.fetch.specs.Read.{log_at}
 use Rattle.decode.specs.Decode.{prefixed}
 use mathlib.Core.Path.{◌≡◌}
 use Rattle.decode.proofs.prefixed.Given as goal
 
 abbrev pub invariant-loop-n : goal.invariant-loop-n
-invariant-loop-n l = (l.n ≤ 16) × (prefixed 16 l.s.eip (view l.mem l.c) (log_at l.s.eip 0) ≡ prefixed (16 - l.n) l.s.eip (view l.mem l.c) (log_at l.s.eip l.n))
-
-abbrev pub decreases-loop-n : goal.decreases-loop-n
-decreases-loop-n l = 16 - l.n
+invariant-loop-n l = prefixed 16 l.s.eip (shown l.s) (log_at l.s.eip 0) ≡ prefixed (16 - l.n) l.s.eip (shown l.s) (log_at l.s.eip l.n)

@@ -1,25 +1,25 @@
 use Rattle.fetch.proofs.Laws.{got, missed}
 use Rattle.decode.specs.Decode.{with_modrm, judged}
 use Rattle.decode.proofs.Laws.{made, spoiled}
-use mathlib.Core.Path.{sym, ◌∙◌}
+use Rattle.std.proofs.lemmas.Result.{err_from_is_err_and}
 use Rattle.decode.proofs.with_modrm.Goals as goal
 
-pub returns-in_default : goal.returns-in_default
+pub returns-in_err-modrm : goal.returns-in_err-modrm
 unfolding with_modrm judged
-returns-in_default c = rw (missed _ c.fetch-r0.ensures.does c.in_default.is c.miss.ensures)
+returns-in_err-modrm c = let p = err_from_is_err_and c.from_residual.result c.from_residual.ensures.1 in rw (p.1, p.2, missed c.args.s.now.eip c.in_err-modrm.ensures.does)
 
 pub returns-then-undefined_form : goal.returns-then-undefined_form
 unfolding with_modrm judged
-returns-then-undefined_form c = rw (got _ c.fetch-r0.ensures.does c.in-Got.is, (sym c.undefined_form.ensures ∙ c.if-undefined_form.true))
+returns-then-undefined_form c = rw (got c.args.s.now.eip c.in_ok-modrm.ensures.does, ← c.undefined_form.ensures, c.if-undefined_form.true)
 
 pub returns-then-unbuilt_form : goal.returns-then-unbuilt_form
 unfolding with_modrm judged
-returns-then-unbuilt_form c = rw (got _ c.fetch-r0.ensures.does c.in-Got.is, (sym c.undefined_form.ensures ∙ c.if-undefined_form.false), (sym c.unbuilt_form.ensures ∙ c.if-unbuilt_form.true))
+returns-then-unbuilt_form c = rw (got c.args.s.now.eip c.in_ok-modrm.ensures.does, ← c.undefined_form.ensures, c.if-undefined_form.false, ← c.unbuilt_form.ensures, c.if-unbuilt_form.true)
 
-pub returns-in_default-r1 : goal.returns-in_default-r1
+pub returns-in_err-f : goal.returns-in_err-f
 unfolding with_modrm judged
-returns-in_default-r1 c = rw (got _ c.fetch-r0.ensures.does c.in-Got.is, (sym c.undefined_form.ensures ∙ c.if-undefined_form.false), (sym c.unbuilt_form.ensures ∙ c.if-unbuilt_form.false), spoiled _ c.after_modrm-r1.ensures c.in_default-r1.is c.spoilt.ensures)
+returns-in_err-f c = let p = err_from_is_err_and c.from_residual-in_err-f.result c.from_residual-in_err-f.ensures.1 in rw (p.1, p.2, got c.args.s.now.eip c.in_ok-modrm.ensures.does, ← c.undefined_form.ensures, c.if-undefined_form.false, ← c.unbuilt_form.ensures, c.if-unbuilt_form.false, spoiled c.args.s.now.eip c.in_err-f.ensures)
 
 pub returns : goal.returns
 unfolding with_modrm judged
-returns c = rw (got _ c.fetch-r0.ensures.does c.in-Got.is, (sym c.undefined_form.ensures ∙ c.if-undefined_form.false), (sym c.unbuilt_form.ensures ∙ c.if-unbuilt_form.false), made _ c.after_modrm-r1.ensures c.in-Made.is) c.finish.ensures
+returns c = rw (got c.args.s.now.eip c.in_ok-modrm.ensures.does, ← c.undefined_form.ensures, c.if-undefined_form.false, ← c.unbuilt_form.ensures, c.if-unbuilt_form.false, made c.args.s.now.eip c.in_ok-f.ensures) c.finish.ensures

@@ -25,7 +25,7 @@ pub returns-in-28 : goal.returns-in-28
 returns-in-28 c = rw c.with_number-in-28.ensures (read_pop (c.args.mem.now) (c.args.i) (c.args.b) (c.args.m) (c.requires.1.0) (c.requires.1.1.0) _ (c.args.c) (c.requires.1.1.1.1.1) c.in-28.is refl)
 
 pub returns-in-36 : goal.returns-in-36
-returns-in-36 c = rw c.with_number-in-36.ensures (read_jump (c.args.mem.now) (c.args.i) (c.args.b) (c.args.m) (c.requires.1.0) (c.requires.1.1.0) _ (c.args.c) (c.requires.1.1.1.1.1) _ (search rules) c.in-36.is (c.requires.1.1.1.1.0) c.extend.ensures refl)
+returns-in-36 c = rw c.with_number-in-36.ensures (read_jump (c.args.mem.now) (c.args.i) (c.args.b) (c.args.m) (c.requires.1.0) (c.requires.1.1.0) _ (c.args.c) (c.requires.1.1.1.1.1) _ (search rules) c.in-36.is (c.requires.1.1.1.1.0) c.signed_byte.ensures refl)
 
 pub returns-in-41 : goal.returns-in-41
 returns-in-41 c = rw c.with_number-in-41.ensures (read_return (c.args.mem.now) (c.args.i) (c.args.b) (c.args.m) (c.requires.1.0) (c.requires.1.1.0) _ (c.args.c) (c.requires.1.1.1.1.1) c.in-41.is refl)

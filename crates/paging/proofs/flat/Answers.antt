@@ -1,8 +1,8 @@
 use Rattle.paging.proofs.Cases.{flat_at, flat_past}
 use Rattle.paging.proofs.flat.Goals as goal
 
-pub returns-then-l-mem : goal.returns-then-l-mem
-returns-then-l-mem c = flat_at _ _ c.if-l-mem.true
+pub returns-then-mem-l : goal.returns-then-mem-l
+returns-then-mem-l c = flat_past _ _ c.if-mem-l.true
 
-pub returns-else-l-mem : goal.returns-else-l-mem
-returns-else-l-mem c = flat_past _ _ c.if-l-mem.false
+pub returns : goal.returns
+returns c = flat_at _ _ c.if-mem-l.false

@@ -1,21 +1,13 @@
-use Rattle.audit.proofs.First.{start, next}
-use Rattle.frames.specs.Users.{users}
-use Rattle.frames.proofs.Tables.{found, missed}
-use Rattle.std.proofs.Common.{◌≡◌, sym, ◌∙◌, arith, rules}
+-- Whether one of the entries passes. Assumes nothing.
+use Rattle.std.proofs.Common.{◌∙◌, refl, rules}
+use Rattle.std.proofs.lemmas.Iterator.{YieldsList-from_range}
+use Rattle.std.proofs.lemmas.Iterator.Search.{any_from_yields_List}
+use Rattle.frames.specs.Users.{leads_at, users}
+use Rattle.frames.proofs.Tables.{any_first}
 use Rattle.frames.proofs.maps.is_users.Goals as goal
-
--- The first that passes, or none of them. Assumes nothing.
-
-pub loop-d-init : goal.loop-d-init
-loop-d-init c = (search rules, start _)
-
-pub returns-then-leads_at : goal.returns-then-leads_at
-unfolding users
-returns-then-leads_at c = found _ _ c.loop-d.invariant.1 (sym c.leads_at.ensures ∙ c.if-leads_at.true) c.loop-d-test.true
-
-pub loop-d-preserved : goal.loop-d-preserved
-loop-d-preserved c = (search rules, next _ _ c.loop-d.invariant.1 (sym c.leads_at.ensures ∙ c.if-leads_at.false))
 
 pub returns : goal.returns
 unfolding users
-returns c = missed _ (let e : c.loop-d.d ≡ 1024 = omega arith in rw e at c.loop-d.invariant.1)
+returns c =
+    any_from_yields_List (leads_at c.args.mem.now c.args.c c.args.f) _ _ _ c.any.ensures.ran (YieldsList-from_range 0 1024 1024 refl refl) (λ x b q k. search rules)
+    ∙ any_first _ 1024

@@ -1,21 +1,13 @@
-use Rattle.audit.proofs.First.{start, next}
-use Rattle.frames.specs.Users.{opened}
-use Rattle.frames.proofs.Tables.{found, missed}
-use Rattle.std.proofs.Common.{◌≡◌, sym, ◌∙◌, arith, rules}
+-- Whether one of the entries passes. Assumes nothing.
+use Rattle.std.proofs.Common.{◌∙◌, refl, rules}
+use Rattle.std.proofs.lemmas.Iterator.{YieldsList-from_range}
+use Rattle.std.proofs.lemmas.Iterator.Search.{any_from_yields_List}
+use Rattle.frames.specs.Users.{opens_at, opened}
+use Rattle.frames.proofs.Tables.{any_first}
 use Rattle.frames.proofs.maps.opens.Goals as goal
-
--- The first that passes, or none of them. Assumes nothing.
-
-pub loop-i-init : goal.loop-i-init
-loop-i-init c = (search rules, start _)
-
-pub returns-then-opens_at : goal.returns-then-opens_at
-unfolding opened
-returns-then-opens_at c = found _ _ c.loop-i.invariant.1 (sym c.opens_at.ensures ∙ c.if-opens_at.true) c.loop-i-test.true
-
-pub loop-i-preserved : goal.loop-i-preserved
-loop-i-preserved c = (search rules, next _ _ c.loop-i.invariant.1 (sym c.opens_at.ensures ∙ c.if-opens_at.false))
 
 pub returns : goal.returns
 unfolding opened
-returns c = missed _ (let e : c.loop-i.i ≡ 1024 = omega arith in rw e at c.loop-i.invariant.1)
+returns c =
+    any_from_yields_List (opens_at c.args.mem.now c.args.t c.args.f) _ _ _ c.any.ensures.ran (YieldsList-from_range 0 1024 1024 refl refl) (λ x b q k. search rules)
+    ∙ any_first _ 1024

@@ -1,9 +1,0 @@
-use Rattle.fetch.proofs.Laws.{fetch_full, fetch_near}
-use Rattle.std.proofs.Common.{arith, rules}
-use Rattle.fetch.proofs.fetch.Goals as goal
-
-pub returns-then-n-ge15 : goal.returns-then-n-ge15
-returns-then-n-ge15 c = fetch_full _ _ _ _ c.if-n-ge15.true
-
-pub returns-in-Near : goal.returns-in-Near
-returns-in-Near c = fetch_near _ _ c.args.s _ _ _ c.requires (search rules) (omega arith) (omega arith) c.in-Near.is (simp (c.byte_at.ensures.0, c.index.ensures.0)) c.byte_at.ensures.1

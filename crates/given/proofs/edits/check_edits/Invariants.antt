@@ -1,6 +1,0 @@
--- `check_edits` goes on to the next line, and ends at the end of the text. Assumes nothing.
-use Rattle.std.proofs.Common.{◌-◌, length}
-use Rattle.given.proofs.edits.check_edits.Given as goal
-
-abbrev pub decreases-loop-at : goal.decreases-loop-at
-decreases-loop-at l = length l.s - l.at

@@ -1,6 +1,0 @@
--- `values` goes through the fourteen values of a record. Assumes nothing.
-use Rattle.std.proofs.Common.{◌-◌}
-use Rattle.journal.proofs.record.values.Given as goal
-
-abbrev pub decreases-loop-n : goal.decreases-loop-n
-decreases-loop-n g l = 14 - l.n
