@@ -81,10 +81,12 @@ fn near(mem: &[u8], c: Control, w: bool, l: u32) -> Result<Access, Reply>
 fn gather(mem: &[u8], i: Physical, j: Physical, k: Physical, l: Physical) -> u32
     ensures { result ≡ at mem.now i.0 + 256 * at mem.now j.0 + 65536 * at mem.now k.0 + 16777216 * at mem.now l.0 }
 {
-    paging::byte_at(mem, i.index())
-        + 256 * paging::byte_at(mem, j.index())
-        + 65536 * paging::byte_at(mem, k.index())
-        + 16777216 * paging::byte_at(mem, l.index())
+    u32::from_le_bytes([
+        cells::get(mem, i.index(), 0),
+        cells::get(mem, j.index(), 0),
+        cells::get(mem, k.index(), 0),
+        cells::get(mem, l.index(), 0),
+    ])
 }
 
 // A dword over two pages: the first page's checks are finished before the second's.
@@ -219,19 +221,21 @@ fn put_near(mem: &mut [u8], p: Physical, v: u32)
     ensures { mem.new ≡ patches (placed (Place.Near p) v) mem.old }
 {
     let i = p.index();
-    cells::put(mem, i, (v % 256) as u8);
-    cells::put(mem, i + 1, (v / 256 % 256) as u8);
-    cells::put(mem, i + 2, (v / 65536 % 256) as u8);
-    cells::put(mem, i + 3, (v / 16777216 % 256) as u8);
+    let [b0, b1, b2, b3] = v.to_le_bytes();
+    cells::put(mem, i, b0);
+    cells::put(mem, i + 1, b1);
+    cells::put(mem, i + 2, b2);
+    cells::put(mem, i + 3, b3);
 }
 
 fn put_across(mem: &mut [u8], a: Physical, b: Physical, c: Physical, d: Physical, v: u32)
     ensures { mem.new ≡ patches (placed (Place.Across a b c d) v) mem.old }
 {
-    cells::put(mem, a.index(), (v % 256) as u8);
-    cells::put(mem, b.index(), (v / 256 % 256) as u8);
-    cells::put(mem, c.index(), (v / 65536 % 256) as u8);
-    cells::put(mem, d.index(), (v / 16777216 % 256) as u8);
+    let [b0, b1, b2, b3] = v.to_le_bytes();
+    cells::put(mem, a.index(), b0);
+    cells::put(mem, b.index(), b1);
+    cells::put(mem, c.index(), b2);
+    cells::put(mem, d.index(), b3);
 }
 
 fn put_in(mem: &mut [u8], at: Place, v: u32)

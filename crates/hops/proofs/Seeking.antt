@@ -16,7 +16,7 @@ use Rattle.machine.specs.declared.Want.TheVariants.{Nothing}
 use Rattle.machine.specs.Record.{Mem, at}
 use Rattle.machine.specs.Paging.{dword_at, dir_frame}
 use Rattle.machine.specs.Commit.{Patch, patch, patches}
-use Rattle.paging.specs.declared.Marks.TheVariants.{None}
+use Rattle.std.specs.Prelude.{None}
 use Rattle.paging.specs.declared.Physical.{Physical}
 use Rattle.keptpages.specs.declared.Kept.{Kept}
 use Rattle.paging.specs.Walked.{patches_of}

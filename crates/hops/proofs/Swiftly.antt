@@ -22,8 +22,7 @@ use Rattle.machine.specs.Replies.{is_done}
 use Rattle.machine.specs.Paging.{At, translate, view}
 use Rattle.machine.specs.Commit.{Patch, patches}
 use Rattle.machine.specs.Run.{step}
-use Rattle.paging.specs.declared.Marks.TheVariants.{None}
-use Rattle.paging.specs.declared.Translated.TheVariants.{Reached}
+use Rattle.std.specs.Prelude.{None, Ok}
 use Rattle.paging.specs.Walked.{patches_of}
 use Rattle.keptpages.specs.declared.Kept.{Kept}
 use Rattle.keptpages.specs.Quiet.{Quiet, KeptOk}
@@ -150,8 +149,6 @@ module _ (m : Mem) (size : length m % 4096 ≡ 0) (e : List ℕ) (r : Rest) (h :
 
     abbrev planned : Planned
     planned = record {
-      done = true;
-      reply = (compute fits.instr k q.value).reply;
       core = (compute fits.instr k q.value).core;
       value = (compute fits.instr k q.value).value;
       length = fits.instr.length;
@@ -170,11 +167,11 @@ module _ (m : Mem) (size : length m % 4096 ≡ 0) (e : List ℕ) (r : Rest) (h :
     quick_step x r' ex em ea =
         let n = length_within in
         let core = ea ∙ sym (ap (with_core d) (fits.core q.value few)) ∙ sym (core_again d k planned.core) in
-        step_on m (current d e r) planned good
+        step_on m (current d e r) good planned
         (ready m (current d e r) fits.instr fits.decodes (fits.free (iopl (current d e r).eflags) d.control.ring) found.one (rw fits.firstly found.firstly) found.two (rw fits.secondly found.secondly)
-        (compute fits.instr k q.value) (λ j. compute fits.instr (sym (core_back d k) j) (sym found.value j)) (sym (ap is_done (fits.done q.value))))
-        refl trail
-        (trail_one m size c eip small fits.instr.length (Reached (record { 0 = start }) (quiet eip small page).entries) (quiet eip small page).entries n.0 (omega (arith, n.1)) (omega (arith, n.1, room)) (quiet eip small page).walked refl)
+        (compute fits.instr k q.value) (λ j. compute fits.instr (sym (core_back d k) j) (sym found.value j)) (ap is_done (fits.done q.value)))
+        trail
+        (trail_one m size c eip small fits.instr.length (Ok (record { place = record { 0 = start }; entries = (quiet eip small page).entries })) (quiet eip small page).entries n.0 (omega (arith, n.1)) (omega (arith, n.1, room)) (quiet eip small page).walked refl)
         unmarked (stored x ex em) core
 
 -- the core that an operation leaves, and MUL

@@ -6,7 +6,7 @@ use Rattle.machine.specs.declared.Control.{Control}
 use Rattle.machine.specs.Record.{Mem, at, has, paging, user}
 use Rattle.machine.specs.Paging.{dword_at, slot, dir_frame, dir_index, tab_index, rights}
 use Rattle.machine.specs.Commit.{patch, patches, mark}
-use Rattle.paging.specs.declared.Marks.TheVariants.{None, Entries}
+use Rattle.std.specs.Prelude.{Some, None}
 use Rattle.keptpages.specs.declared.Pair.{Pair}
 use Rattle.keptpages.specs.declared.Kept.{Kept}
 use Rattle.paging.specs.Walked.{patches_of}
@@ -111,7 +111,7 @@ module _ (m : Mem) (c : Control) (w : Bool) (l : ℕ) (e : Pair) (k : Pairs m c 
       let s = passed _ _ _ e.pte tests.1 in
       let page = mapped m c l e.dir k.dir_at k.dir_in e.pde k.dir_is f.present e.tab k.tab_at k.tab_in e.pte k.tab_is s.present in
       record {
-        entries = Entries (record { 0 = e.dir }) (record { 0 = e.tab });
+        entries = Some (record { dir = record { 0 = e.dir }; table = record { 0 = e.tab } });
         walked = paged m c w l _ on (on_at m c w l _ _ _ _ _ page (allowed_both c w e.pde e.pte f s) p ep inside);
         marked = ap (patch (record { place = e.tab; becomes = mark w })) (marked_there false m e.dir e.pde k.dir_is f) ∙ marked_there w m e.tab e.pte k.tab_is s;
       }

@@ -1,21 +1,20 @@
 -- Pages that can be used with nothing left to mark: what the quick way through a run asks of the maps.
 -- Assumes nothing.
-use Rattle.std.specs.Prelude.{◌≡◌, ℕ, ◌+◌, ◌/◌, ◌%◌, ◌<◌, ◌≤◌, Bool, false, not, ◌&&◌, ◌||◌, List, length, ◌==◌, nat_le, slice_index_or, Option, Some, None}
+use Rattle.std.specs.Prelude.{◌≡◌, ℕ, ◌+◌, ◌/◌, ◌%◌, ◌<◌, ◌≤◌, Bool, false, not, ◌&&◌, ◌||◌, List, length, ◌==◌, nat_le, slice_index_or, Option, Some, None, Ok}
 use Rattle.machine.specs.Record.{Mem, at, has, user, write_protect}
 use Rattle.machine.specs.declared.Control.{Control}
 use Rattle.machine.specs.Paging.{dword_at, slot, dir_frame, dir_index, tab_index}
 use Rattle.machine.specs.Commit.{patches}
 use Rattle.paging.specs.declared.Physical.{Physical}
-use Rattle.paging.specs.declared.Marks.{Marks}
-use Rattle.paging.specs.declared.Translated.TheVariants.{Reached}
+use Rattle.paging.specs.declared.Entries.{Entries}
 use Rattle.keptpages.specs.declared.Pair.{Pair}
 use Rattle.keptpages.specs.declared.Kept.{Kept}
 use Rattle.paging.specs.Walked.{Walked, patches_of}
 
 -- the byte at linear address l lies at p, and marking its page changes nothing
 pub record Quiet (m : Mem) (c : Control) (w : Bool) (l : ℕ) (p : Physical) : Type 0 where
-  pub entries : Marks
-  pub walked : Walked m c w l (Reached p entries)
+  pub entries : Option Entries
+  pub walked : Walked m c w l (Ok (record { place = p; entries = entries }))
   pub marked : patches (patches_of w entries) m ≡ m
 
 -- where the byte at l lies, if it may be used as it is

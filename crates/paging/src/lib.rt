@@ -41,7 +41,7 @@ pub struct Reached {
 pub fn byte_at(mem: &[u8], i: usize) -> u32
     ensures { (result ≡ at mem.now i) × (result < 256) }
 {
-    if i < mem.len() { u32::from(mem[i]) } else { 0 }
+    u32::from(cells::get(mem, i, 0))
 }
 
 // The byte at an index that is there.
@@ -56,10 +56,12 @@ fn slow(mem: &[u8], i: usize) -> u32
     requires { i < 2 ^ 46 }
     ensures { result ≡ dword_at mem.now i }
 {
-    byte_at(mem, i)
-        + 256 * byte_at(mem, i + 1)
-        + 65536 * byte_at(mem, i + 2)
-        + 16777216 * byte_at(mem, i + 3)
+    u32::from_le_bytes([
+        cells::get(mem, i, 0),
+        cells::get(mem, i + 1, 0),
+        cells::get(mem, i + 2, 0),
+        cells::get(mem, i + 3, 0),
+    ])
 }
 
 // The dword at an index, where all of it is there.
@@ -67,7 +69,7 @@ pub fn present_dword(mem: &[u8], i: usize) -> u32
     requires { i + 3 < length mem.now }
     ensures { result ≡ dword_at mem.now i }
 {
-    u32::from(mem[i]) + 256 * u32::from(mem[i + 1]) + 65536 * u32::from(mem[i + 2]) + 16777216 * u32::from(mem[i + 3])
+    u32::from_le_bytes([mem[i], mem[i + 1], mem[i + 2], mem[i + 3]])
 }
 
 // The dword at an index: bytes past the end are 0.

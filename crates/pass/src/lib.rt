@@ -1,7 +1,7 @@
 // A pass: the guest runs until it ends the pass or cannot go on, and each waypoint that it asks to send is taken.
 #![tactic(auto)]
 
-ghost use Rattle.std.specs.Prelude.{◌<◌, IfOk};
+ghost use Rattle.std.specs.Prelude.{◌<◌};
 
 use journal::Voice;
 use machine::{Cpu, Reply};

@@ -12,9 +12,7 @@ pub fn seed(mem: &[u8], p: Plan, ground: &mut [u8]) {
 
 // The byte that the guest itself could read there, if it could.
 fn fetch_byte(mem: &[u8], c: Control, linear: u32) -> Option<u8> {
-    let Ok(t) = paging::translate(mem, c, false, Linear(linear)) else {
-        return None;
-    };
+    let t = paging::translate(mem, c, false, Linear(linear)).ok()?;
     Some(cells::get(mem, t.place.index(), 0))
 }
 

@@ -1,7 +1,8 @@
 use Rattle.access.specs.Located.{placed}
 use Rattle.machine.specs.Commit.{patch, patches}
+use Rattle.std.proofs.Common.{rules}
 use Rattle.access.proofs.put_near.Goals as goal
 
 pub returns : goal.returns
 unfolding patch patches placed
-returns c = simp (c.put-4.ensures, c.put-3.ensures, c.put-2.ensures, c.put.ensures, c.index-i.ensures.0)
+returns c = search rules
