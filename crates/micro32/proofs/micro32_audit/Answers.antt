@@ -6,4 +6,4 @@ use Rattle.micro32.proofs.micro32_audit.Goals as goal
 -- Assumes nothing.
 
 pub returns : goal.returns
-returns c = c.answer_of.ensures ∙ ap (λ q. answering q 0) c.audit-q.ensures
+returns c = c.answer_of.ensures ∙ ap (λ q. answering q 0) c.audit.ensures

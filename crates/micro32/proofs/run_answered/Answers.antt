@@ -6,4 +6,4 @@ use Rattle.micro32.proofs.run_answered.Goals as goal
 -- Assumes nothing.
 
 pub returns : goal.returns
-returns c = rw c.answer_of-a.ensures (ap answered c.run-r.ensures)
+returns c = rw c.answer_of.ensures (ap answered c.run-r.ensures)
