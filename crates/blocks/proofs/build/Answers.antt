@@ -7,7 +7,7 @@ pub loop-j-init : goal.loop-j-init
 loop-j-init c = built_none _ _ _ _ (search rules) c.begin.ensures
 
 pub read-requires : goal.read-requires
-read-requires c = (omega (arith, c.requires.0), c.requires.1.1.1.1)
+read-requires c = omega (arith, c.requires.0)
 
 pub pack-requires : goal.pack-requires
 pack-requires c = c.in-Some.ensures.1

@@ -8,4 +8,4 @@ pub returns-then-not-sound : goal.returns-then-not-sound
 returns-then-not-sound c = ap run_told (run_bad _ _ c.args.c (sym c.sound.ensures ∙ c.if-not-sound.true))
 
 pub run_on-requires : goal.run_on-requires
-run_on-requires c = (c.classes-t.ensures, (fresh, sym c.sound.ensures ∙ c.if-not-sound.false))
+run_on-requires c = (fresh, sym c.sound.ensures ∙ c.if-not-sound.false)

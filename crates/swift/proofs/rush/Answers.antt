@@ -12,13 +12,13 @@ pub turned-requires : goal.turned-requires
 turned-requires c = λ g. absurd (false≢true g)
 
 pub loop-n-init : goal.loop-n-init
-loop-n-init c = (search rules, refl, (c.in-Some.ensures.1), rush_begun _ _ (c.args.c) _, c.requires.0, c.requires.1.0, c.requires.1.1)
+loop-n-init c = (search rules, refl, (c.in-Some.ensures.1), rush_begun _ _ (c.args.c) _, c.requires.0, c.requires.1)
 
 pub overflow_sub-limit : goal.overflow_sub-limit
 overflow_sub-limit c = let z = c.loop-n.invariant.0 in search rules
 
 pub sprint-w-requires : goal.sprint-w-requires
-sprint-w-requires c = (ap (λ x. x % 4096) (c.loop-n.invariant.1) ∙ (c.loop-n.invariant.4), (c.loop-n.invariant.5, (c.loop-n.invariant.2, c.loop-n.invariant.6)))
+sprint-w-requires c = (ap (λ x. x % 4096) (c.loop-n.invariant.1) ∙ (c.loop-n.invariant.4), (c.loop-n.invariant.2, c.loop-n.invariant.5))
 
 pub overflow_add-n : goal.overflow_add-n
 overflow_add-n c = let k = c.sprint-w.ensures.0 in let l = c.loop-n-test.true in let z = c.loop-n.invariant.0 in omega (arith, k, l, z, c.ranges.limit)
@@ -33,7 +33,7 @@ pub returns-then-not-n-limit : goal.returns-then-not-n-limit
 returns-then-not-n-limit c = let k = c.sprint-w.ensures.0 in let l = c.loop-n-test.true in let z = c.loop-n.invariant.0 in (omega (arith, k, z, l), ((rush_joined _ _ _ _ _ _ _ _ (c.loop-n.invariant.3) _ _ _ _ (c.sprint-w.ensures.1.0.rushed)), c.sprint-w.ensures.1.1))
 
 pub hop-w-requires : goal.hop-w-requires
-hop-w-requires c = let g = two_tests ((c.loop-n.n) + (c.sprint-w.result.count)) (c.args.limit) ((c.sprint-w.result.rest.eip) % 4096) 4080 (c.if-not-n-limit.false) in ((ap (λ x. x % 4096) ((c.sprint-w.ensures.1.0.size) ∙ (c.loop-n.invariant.1)) ∙ (c.loop-n.invariant.4)), (c.loop-n.invariant.5, (c.in-Some-page_for.ensures.1, (sym c.in-Some-page_for.ensures.0, (g.1, search rules)))))
+hop-w-requires c = let g = two_tests ((c.loop-n.n) + (c.sprint-w.result.count)) (c.args.limit) ((c.sprint-w.result.rest.eip) % 4096) 4080 (c.if-not-n-limit.false) in ((ap (λ x. x % 4096) ((c.sprint-w.ensures.1.0.size) ∙ (c.loop-n.invariant.1)) ∙ (c.loop-n.invariant.4)), (c.in-Some-page_for.ensures.1, (sym c.in-Some-page_for.ensures.0, (g.1, search rules))))
 
 pub shape_of-mem-then-not-moves : goal.shape_of-mem-then-not-moves
 shape_of-mem-then-not-moves c = (c.hop-w.auto.mem) ∙ (c.sprint-w.ensures.1.0.size) ∙ (c.loop-n.invariant.1)
@@ -54,10 +54,10 @@ pub loop-n-smaller : goal.loop-n-smaller
 loop-n-smaller c = let g = two_tests ((c.loop-n.n) + (c.sprint-w.result.count)) (c.args.limit) ((c.sprint-w.result.rest.eip) % 4096) 4080 (c.if-not-n-limit.false) in let k = c.sprint-w.ensures.0 in let l = c.loop-n-test.true in let z = c.loop-n.invariant.0 in omega (arith, g.0, k, l, z)
 
 pub loop-n-preserved : goal.loop-n-preserved
-loop-n-preserved c = let g = two_tests ((c.loop-n.n) + (c.sprint-w.result.count)) (c.args.limit) ((c.sprint-w.result.rest.eip) % 4096) 4080 (c.if-not-n-limit.false) in (omega (arith, g.0), (c.hop-w.auto.mem) ∙ (c.sprint-w.ensures.1.0.size) ∙ (c.loop-n.invariant.1), c.in-Some-page_for-2.ensures.1, rush_on _ _ _ _ _ _ _ _ (rush_joined _ _ _ _ _ _ _ _ (c.loop-n.invariant.3) _ _ _ _ (c.sprint-w.ensures.1.0.rushed)) _ _ _ _ _ (c.hop-w.ensures) (sym c.moves.ensures ∙ c.if-not-moves.false), c.loop-n.invariant.4, c.loop-n.invariant.5, c.sprint-w.ensures.1.1)
+loop-n-preserved c = let g = two_tests ((c.loop-n.n) + (c.sprint-w.result.count)) (c.args.limit) ((c.sprint-w.result.rest.eip) % 4096) 4080 (c.if-not-n-limit.false) in (omega (arith, g.0), (c.hop-w.auto.mem) ∙ (c.sprint-w.ensures.1.0.size) ∙ (c.loop-n.invariant.1), c.in-Some-page_for-2.ensures.1, rush_on _ _ _ _ _ _ _ _ (rush_joined _ _ _ _ _ _ _ _ (c.loop-n.invariant.3) _ _ _ _ (c.sprint-w.ensures.1.0.rushed)) _ _ _ _ _ (c.hop-w.ensures) (sym c.moves.ensures ∙ c.if-not-moves.false), c.loop-n.invariant.4, c.sprint-w.ensures.1.1)
 
 pub shape_of-mem : goal.shape_of-mem
 shape_of-mem c = c.loop-n.invariant.1
 
 pub returns : goal.returns
-returns c = (c.loop-n.invariant.0, (c.loop-n.invariant.3, c.loop-n.invariant.6))
+returns c = (c.loop-n.invariant.0, (c.loop-n.invariant.3, c.loop-n.invariant.5))
