@@ -19,6 +19,7 @@ fn deposited(i: Instruction, k: Core, o: Out) -> Effect
     operands::advanced(i, k, operands::deposit(i, r, o.value), s, o.value)
 }
 
+#[tactic(auto, unfolding(crate::specs::Arithmetic::combined))]
 fn combined(i: Instruction, k: Core, o: Out) -> Effect
     ensures { result ≡ combined i k o }
 {
@@ -30,6 +31,7 @@ fn combined(i: Instruction, k: Core, o: Out) -> Effect
     operands::advanced(i, k, r, s, o.value)
 }
 
+#[tactic(auto, unfolding(crate::specs::Arithmetic::do_combine_to))]
 pub fn combine_to(i: Instruction, k: Core, a: u32) -> Effect
     ensures { result ≡ do_combine_to i k a }
 {
@@ -41,6 +43,7 @@ pub fn combine_to(i: Instruction, k: Core, a: u32) -> Effect
     combined(i, k, alu::operate(i.operation, i.wide, x, y, s))
 }
 
+#[tactic(auto, unfolding(crate::specs::Arithmetic::do_combine_immediate))]
 pub fn combine_immediate(i: Instruction, k: Core, a: u32) -> Effect
     ensures { result ≡ do_combine_immediate i k a }
 {
@@ -51,6 +54,7 @@ pub fn combine_immediate(i: Instruction, k: Core, a: u32) -> Effect
     combined(i, k, alu::operate(i.operation, i.wide, x, i.immediate, s))
 }
 
+#[tactic(auto, unfolding(crate::specs::Arithmetic::combined_from))]
 fn combined_from(i: Instruction, k: Core, o: Out) -> Effect
     ensures { result ≡ combined_from i k o }
 {
@@ -62,6 +66,7 @@ fn combined_from(i: Instruction, k: Core, o: Out) -> Effect
     operands::advanced(i, k, r, s, 0)
 }
 
+#[tactic(auto, unfolding(crate::specs::Arithmetic::do_combine_from))]
 pub fn combine_from(i: Instruction, k: Core, a: u32) -> Effect
     ensures { result ≡ do_combine_from i k a }
 {
@@ -73,6 +78,7 @@ pub fn combine_from(i: Instruction, k: Core, a: u32) -> Effect
     combined_from(i, k, alu::operate(i.operation, i.wide, y, x, s))
 }
 
+#[tactic(auto, unfolding(crate::specs::Arithmetic::do_unary))]
 pub fn unary(i: Instruction, k: Core, a: u32) -> Effect
     ensures { result ≡ do_unary i k a }
 {
@@ -83,6 +89,7 @@ pub fn unary(i: Instruction, k: Core, a: u32) -> Effect
     deposited(i, k, alu::operate_one(i.operation, i.wide, x, s))
 }
 
+#[tactic(auto, unfolding(crate::specs::Arithmetic::do_shift))]
 pub fn shift(i: Instruction, k: Core, count: u32, a: u32) -> Effect
     ensures { result ≡ do_shift i k count a }
 {
@@ -108,6 +115,7 @@ fn pair(wide: bool, r: Registers, low: u32, high: u32) -> Registers
     q.write_at(wide, upper(wide), high)
 }
 
+#[tactic(auto, unfolding(crate::specs::Arithmetic::do_multiply))]
 fn multiply(i: Instruction, k: Core, x: u32) -> Effect
     ensures { result ≡ do_multiply i k x }
 {
@@ -133,6 +141,7 @@ fn divide(i: Instruction, k: Core, x: u32) -> Effect
     operands::onward(i, k, pair(i.wide, r, d.quotient, d.remainder))
 }
 
+#[tactic(auto, unfolding(crate::specs::Arithmetic::do_accumulate))]
 pub fn accumulate(i: Instruction, k: Core, a: u32) -> Effect
     ensures { result ≡ do_accumulate i k a }
 {
@@ -152,6 +161,7 @@ fn timed(i: Instruction, k: Core, p: Product) -> Effect
     operands::advanced(i, k, r.with(i.register, p.low), s, 0)
 }
 
+#[tactic(auto, unfolding(crate::specs::Arithmetic::do_multiply_by))]
 pub fn multiply_by(i: Instruction, k: Core, a: u32) -> Effect
     ensures { result ≡ do_multiply_by i k a }
 {
@@ -165,6 +175,7 @@ pub fn multiply_by(i: Instruction, k: Core, a: u32) -> Effect
     )
 }
 
+#[tactic(auto, unfolding(crate::specs::Arithmetic::do_multiply_into))]
 pub fn multiply_into(i: Instruction, k: Core, a: u32) -> Effect
     ensures { result ≡ do_multiply_into i k a }
 {

@@ -1,4 +1,0 @@
-use Rattle.arithmetic.proofs.pair.Goals as goal
-
-pub returns : goal.returns
-returns c = cc

@@ -1,4 +1,0 @@
-use Rattle.arithmetic.proofs.timed.Goals as goal
-
-pub returns : goal.returns
-returns c = cc
