@@ -6,7 +6,7 @@ use mathlib.Core.Path.{◌≡◌, refl, sym, ◌∙◌}
 use mathlib.Core.Bool.{Bool, true, false, not, beq}
 use lib.Dec.{ltb, leb, eqb}
 use lib.Bits.{bit_xor, bit_and, xor_shr, xor_add_and, xor_lt, xor_mod}
-use borrow.Author.Tests.{leb-true, leb-false, eqb-true, eqb-false, lt-leb}
+use borrow.Author.Tests.{leb-true, leb-false, eqb-true, eqb-false}
 use Rattle.alu.specs.Arithmetic.{bit}
 use Rattle.alu.proofs.Laws.{into_top, leb_same, bit_le}
 
@@ -92,14 +92,6 @@ sub_af a b c r q hc h =
 
     odd : (x y z d q : ℕ) → z + y + d ≡ x + 2 * q → (x + y + z) % 2 ≡ d % 2
     odd x y z d q h = omega arith
-
--- ---- without the top place
-
-pub low_place : (n : ℕ) → n % 2147483648 / 16 % 2 ≡ n / 16 % 2
-low_place n = omega arith
-
-pub low_top : (n : ℕ) → leb 2147483648 (n % 2147483648) ≡ false
-low_top n = lt-leb 2147483648 (n % 2147483648) (omega arith)
 
 -- ---- CF put back: the carry into the top place changes where CF does, and so OF does not
 

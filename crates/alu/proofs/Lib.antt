@@ -1,5 +1,4 @@
 pub mod Laws
 pub mod Carries
 pub mod Showing
-pub mod Operations
 pub mod Words

@@ -71,6 +71,7 @@ pub fn is_tellable(s: Status) -> bool
     !s.zf | (!s.sf & s.pf)
 }
 
+#[tactic(auto, using(crate::proofs::Showing::shows_zero, crate::proofs::Showing::shows_negative_even, crate::proofs::Showing::shows_negative_odd, crate::proofs::Showing::shows_even, crate::proofs::Showing::shows_odd))]
 fn shown(s: Status) -> u32
     ensures { tellable s ≡ true → seeing s.cf s.af s.of result ≡ s }
 {
@@ -147,6 +148,7 @@ pub fn sub<W: Word>(a: W, b: W, c: bool) -> Short
 }
 
 // AND, OR, XOR and TEST carry nothing into any place or out of the top one; f, the flags before, is there for the contract alone.
+#[tactic(auto, unfolding(crate::specs::Arithmetic::logic_status))]
 pub fn logic<W: Word>(r: W, f: Brief) -> Short
     ensures { out_in result ≡ logic (bits W.wide) (status_in f) (W.number r) }
 {
@@ -160,6 +162,7 @@ pub fn logic<W: Word>(r: W, f: Brief) -> Short
 }
 
 // The same with CF as it was before.
+#[tactic(auto, using(crate::proofs::Carries::kept_place, crate::proofs::Carries::kept_top))]
 pub fn keep_carry(f: Brief, r: Short) -> Short
     ensures { out_in result ≡ record { value = r.value; status = keep_carry (status_in f) (status_in r.flags) } }
 {

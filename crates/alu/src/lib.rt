@@ -46,6 +46,7 @@ pub fn sub<W: Word>(a: W, b: W, c: bool) -> Out
     brief::out_in(brief::sub(a, b, c))
 }
 
+#[tactic(auto, unfolding(crate::specs::Arithmetic::logic_status))]
 pub fn logic<W: Word>(r: W, s: Status) -> Out
     ensures { result ≡ logic (bits W.wide) s (W.number r) }
 {

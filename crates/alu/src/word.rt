@@ -107,6 +107,7 @@ impl Word for u8 {
         m + m * 0x100_0000
     }
 
+    #[tactic(auto, using(crate::proofs::Showing::byte_shows))]
     fn showing(r: u32) -> u32 {
         crate::signed_byte(r)
     }

@@ -18,6 +18,7 @@ fn deposited(i: Instruction, k: Core, o: Out) -> Effect
     operands::advanced(i, k, regs, o.status, o.value)
 }
 
+#[tactic(auto, unfolding(crate::specs::Arithmetic::combined))]
 fn combined(i: Instruction, k: Core, o: Out) -> Effect
     ensures { result ≡ combined i k o }
 {
@@ -28,6 +29,7 @@ fn combined(i: Instruction, k: Core, o: Out) -> Effect
     }
 }
 
+#[tactic(auto, unfolding(crate::specs::Arithmetic::do_combine_to))]
 pub fn combine_to(i: Instruction, k: Core, a: u32) -> Effect
     ensures { result ≡ do_combine_to i k a }
 {
@@ -40,6 +42,7 @@ pub fn combine_to(i: Instruction, k: Core, a: u32) -> Effect
     )
 }
 
+#[tactic(auto, unfolding(crate::specs::Arithmetic::do_combine_immediate))]
 pub fn combine_immediate(i: Instruction, k: Core, a: u32) -> Effect
     ensures { result ≡ do_combine_immediate i k a }
 {
@@ -51,6 +54,7 @@ pub fn combine_immediate(i: Instruction, k: Core, a: u32) -> Effect
     )
 }
 
+#[tactic(auto, unfolding(crate::specs::Arithmetic::combined_from))]
 fn combined_from(i: Instruction, k: Core, o: Out) -> Effect
     ensures { result ≡ combined_from i k o }
 {
@@ -62,6 +66,7 @@ fn combined_from(i: Instruction, k: Core, o: Out) -> Effect
     }
 }
 
+#[tactic(auto, unfolding(crate::specs::Arithmetic::do_combine_from))]
 pub fn combine_from(i: Instruction, k: Core, a: u32) -> Effect
     ensures { result ≡ do_combine_from i k a }
 {
@@ -74,6 +79,7 @@ pub fn combine_from(i: Instruction, k: Core, a: u32) -> Effect
     )
 }
 
+#[tactic(auto, unfolding(crate::specs::Arithmetic::do_unary))]
 pub fn unary(i: Instruction, k: Core, a: u32) -> Effect
     ensures { result ≡ do_unary i k a }
 {
@@ -85,6 +91,7 @@ pub fn unary(i: Instruction, k: Core, a: u32) -> Effect
     )
 }
 
+#[tactic(auto, unfolding(crate::specs::Arithmetic::do_shift))]
 pub fn shift(i: Instruction, k: Core, count: u32, a: u32) -> Effect
     ensures { result ≡ do_shift i k count a }
 {
@@ -110,6 +117,7 @@ fn pair(wide: bool, r: Registers, low: u32, high: u32) -> Registers
     r.write_at(wide, 0, low).write_at(wide, upper(wide), high)
 }
 
+#[tactic(auto, unfolding(crate::specs::Arithmetic::do_multiply))]
 fn multiply(i: Instruction, k: Core, x: u32) -> Effect
     ensures { result ≡ do_multiply i k x }
 {
@@ -130,6 +138,7 @@ fn divide(i: Instruction, k: Core, x: u32) -> Effect
     operands::onward(i, k, pair(i.wide, k.regs, d.quotient, d.remainder))
 }
 
+#[tactic(auto, unfolding(crate::specs::Arithmetic::do_accumulate))]
 pub fn accumulate(i: Instruction, k: Core, a: u32) -> Effect
     ensures { result ≡ do_accumulate i k a }
 {
@@ -147,6 +156,7 @@ fn timed(i: Instruction, k: Core, p: Product) -> Effect
     operands::advanced(i, k, k.regs.with(i.register, p.low), p.status, 0)
 }
 
+#[tactic(auto, unfolding(crate::specs::Arithmetic::do_multiply_by))]
 pub fn multiply_by(i: Instruction, k: Core, a: u32) -> Effect
     ensures { result ≡ do_multiply_by i k a }
 {
@@ -158,6 +168,7 @@ pub fn multiply_by(i: Instruction, k: Core, a: u32) -> Effect
     )
 }
 
+#[tactic(auto, unfolding(crate::specs::Arithmetic::do_multiply_into))]
 pub fn multiply_into(i: Instruction, k: Core, a: u32) -> Effect
     ensures { result ≡ do_multiply_into i k a }
 {

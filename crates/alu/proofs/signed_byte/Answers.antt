@@ -1,8 +1,0 @@
-use borrow.Author.Tests.{lt-ltb, le-ltb}
-use Rattle.alu.proofs.signed_byte.Goals as goal
-
-pub returns-then-x-lt128 : goal.returns-then-x-lt128
-returns-then-x-lt128 c = rw (lt-ltb _ _ (c.if-x-lt128.true))
-
-pub returns-else-x-lt128 : goal.returns-else-x-lt128
-returns-else-x-lt128 c = rw (le-ltb _ _ (c.if-x-lt128.false))
