@@ -12,6 +12,7 @@ use encoding::{Class, Classes};
 
 // The kind says what it is (specs/Forms, `meant`); the instruction has `length` bytes; a and b are registers; then an immediate, a displacement or
 // the distance of a jump.
+// Stays: the kind is a number, since the table keeps a form in one, and an enum made of it would have as many arms again as `carry_out`.
 #[derive(Clone, Copy)]
 pub struct Form {
     pub kind: u32,

@@ -104,6 +104,7 @@ pub fn sprint(
             rest: r,
         };
     }
+    // Stays: a turn does as many instructions as its block has, so no range counts the turns.
     while n < limit {
         if !((r.eip / 4096 == h.page) & (r.eip % 4096 <= 4032)) {
             return Traced {

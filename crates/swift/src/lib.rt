@@ -81,6 +81,7 @@ fn rush(
         return Rushed { count: n, rest: r };
     };
     let mut h = first;
+    // Stays: a turn does as many instructions as its blocks have, so no range counts the turns.
     while n < limit {
         let w = sprints::sprint(mem, t, e, d, g, c, r, h, limit - n);
         n += w.count;
