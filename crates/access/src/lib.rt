@@ -187,6 +187,7 @@ fn marked(b: u8, w: bool) -> u8
 }
 
 // The byte is written only where a bit changes.
+#[tactic(auto, unfolding(machine::specs::Commit::patch))]
 fn touch(mem: &mut [u8], p: Physical, w: bool)
     ensures { mem.new ≡ patch (record { place = p.0; becomes = mark w }) mem.old }
 {
@@ -200,6 +201,7 @@ fn touch(mem: &mut [u8], p: Physical, w: bool)
     }
 }
 
+#[tactic(auto, unfolding(machine::specs::Commit::patches, paging::specs::Walked::patches_of))]
 fn mark_page(mem: &mut [u8], k: Option<Entries>, w: bool)
     ensures { mem.new ≡ patches (patches_of w k) mem.old }
 {
@@ -210,6 +212,7 @@ fn mark_page(mem: &mut [u8], k: Option<Entries>, w: bool)
 }
 
 // Marks the pages that an access used.
+#[tactic(auto, using(crate::proofs::Marks::patches_append), unfolding(crate::specs::Located::trail_marks))]
 pub fn mark_trail(mem: &mut [u8], t: Trail, w: bool)
     ensures { mem.new ≡ patches (trail_marks w t) mem.old }
 {
@@ -217,6 +220,7 @@ pub fn mark_trail(mem: &mut [u8], t: Trail, w: bool)
     mark_page(mem, t.last, w);
 }
 
+#[tactic(auto, unfolding(machine::specs::Commit::patch, machine::specs::Commit::patches, crate::specs::Located::placed))]
 fn put_near(mem: &mut [u8], p: Physical, v: u32)
     ensures { mem.new ≡ patches (placed (Place.Near p) v) mem.old }
 {
@@ -228,6 +232,7 @@ fn put_near(mem: &mut [u8], p: Physical, v: u32)
     cells::put(mem, i + 3, b3);
 }
 
+#[tactic(auto, unfolding(machine::specs::Commit::patch, machine::specs::Commit::patches, crate::specs::Located::placed))]
 fn put_across(mem: &mut [u8], a: Physical, b: Physical, c: Physical, d: Physical, v: u32)
     ensures { mem.new ≡ patches (placed (Place.Across a b c d) v) mem.old }
 {
@@ -238,6 +243,7 @@ fn put_across(mem: &mut [u8], a: Physical, b: Physical, c: Physical, d: Physical
     cells::put(mem, d.index(), b3);
 }
 
+#[tactic(auto, unfolding(machine::specs::Commit::patch, machine::specs::Commit::patches, crate::specs::Located::placed))]
 fn put_in(mem: &mut [u8], at: Place, v: u32)
     ensures { mem.new ≡ patches (placed at v) mem.old }
 {
@@ -250,6 +256,7 @@ fn put_in(mem: &mut [u8], at: Place, v: u32)
 }
 
 // Stores a value where an access for writing lies.
+#[tactic(auto, unfolding(crate::specs::Located::puts, machine::specs::Commit::patches))]
 pub fn store(mem: &mut [u8], a: Access, v: u32)
     ensures { mem.new ≡ patches (puts a v) mem.old }
 {
