@@ -98,6 +98,7 @@ pub fn entry(mem: &[u8], f: u32, i: u32) -> u32
     dword(mem, f as usize * 4096 + i as usize * 4)
 }
 
+#[tactic(auto, unfolding(machine::specs::Paging::rights))]
 fn allowed(c: Control, w: bool, us: bool, rw: bool) -> bool
     ensures { result ≡ rights c w us rw }
 {
