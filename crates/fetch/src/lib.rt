@@ -84,6 +84,7 @@ impl<'a> Code<'a> {
         self.far_byte(n)
     }
 
+    #[tactic(auto, unfolding(crate::specs::Fetch::fetch_word))]
     fn word(&self, n: u32) -> Result<Fetched, Reply>
         ensures { got_of self.now.eip result ≡ fetch_word self.now.eip (view self.now.mem.now self.now.control) (log_at self.now.eip n) }
     {
@@ -95,6 +96,7 @@ impl<'a> Code<'a> {
         })
     }
 
+    #[tactic(auto, unfolding(crate::specs::Fetch::fetch_dword))]
     fn dword(&self, n: u32) -> Result<Fetched, Reply>
         ensures { got_of self.now.eip result ≡ fetch_dword self.now.eip (view self.now.mem.now self.now.control) (log_at self.now.eip n) }
     {
@@ -109,6 +111,7 @@ impl<'a> Code<'a> {
     }
 
     // A byte, with its sign.
+    #[tactic(auto, unfolding(crate::specs::Fetch::fetch_signed))]
     fn signed(&self, n: u32) -> Result<Fetched, Reply>
         ensures { got_of self.now.eip result ≡ fetch_signed self.now.eip (view self.now.mem.now self.now.control) (log_at self.now.eip n) }
     {
@@ -120,6 +123,7 @@ impl<'a> Code<'a> {
     }
 
     // A displacement or an immediate of so many bytes.
+    #[tactic(auto, unfolding(crate::specs::Fetch::number))]
     pub fn number(&self, n: u32, size: u32) -> Result<Fetched, Reply>
         ensures { got_of self.now.eip result ≡ number self.now.eip size (view self.now.mem.now self.now.control) (log_at self.now.eip n) }
     {
