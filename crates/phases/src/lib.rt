@@ -55,6 +55,7 @@ fn plan(c: Cpu, mem: &[u8], t: &Classes) -> Result<Planned, Reply>
 }
 
 // Marks, then stores.
+#[tactic(auto, unfolding(crate::specs::Planned::left))]
 fn leave(mem: &mut [u8], p: Planned)
     ensures { mem.new ≡ left p mem.old }
 {
