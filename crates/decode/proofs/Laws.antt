@@ -1,32 +1,20 @@
--- How the answers of the decoder's functions compose.
+-- The overrides, one further each time.
 -- Assumes nothing.
 use Prim.Native.Nat.{ℕ, suc, ◌+◌, ◌-◌, ◌<◌, ◌≤◌}
-use mathlib.Core.Path.{◌≡◌, refl, sym}
+use mathlib.Core.Path.{◌≡◌, refl}
 use mathlib.Core.Bool.{true, false}
 use native.Mathlib.Omega.{arith}
-use Rattle.std.specs.Prelude.{Ok, Err}
 use Rattle.machine.specs.Record.{Mem}
 use Rattle.machine.specs.declared.Control.{Control}
 use Rattle.machine.specs.declared.Reply.{Reply}
 use Rattle.machine.specs.declared.Reply.TheVariants.{Fault}
 use Rattle.machine.specs.Paging.{view}
-use Rattle.machine.specs.Act.{Res, ok, refuse, fetch}
+use Rattle.machine.specs.Act.{ok, refuse, fetch}
 use Rattle.encoding.specs.declared.Class.{Class}
-use Rattle.encoding.specs.declared.Class.TheVariants.{NotBuilt, Override, Escape, Undefined}
-use Rattle.encoding.specs.declared.Operand.{Operand}
-use Rattle.encoding.specs.Encodings.{class_of, is_not_built, is_override, is_escape, is_undefined}
+use Rattle.encoding.specs.declared.Class.TheVariants.{Override}
+use Rattle.encoding.specs.Encodings.{class_of, is_override}
 use Rattle.fetch.specs.Read.{log_at}
-use Rattle.decode.specs.declared.Formed.{Formed}
 use Rattle.decode.specs.Decode.{prefixed}
-use Rattle.decode.specs.Read.{formed_of}
-
--- ---- from an answer to what the rule gives
-
-pub made : (eip : ℕ) {f : Formed} {x : Res Operand} → formed_of eip (Ok f) ≡ x → x ≡ ok f.operand (log_at eip f.length)
-made eip e = sym e
-
-pub spoiled : (eip : ℕ) {q : Reply} {x : Res Operand} → formed_of eip (Err q) ≡ x → x ≡ refuse q
-spoiled eip e = sym e
 
 -- ---- the overrides, one further
 
@@ -55,15 +43,3 @@ override_end m c eip n k = let l : 16 - n ≡ 0 = omega arith in rw l
 pub no_override : (c : Class) → (c ≡ Override → ⊥) → is_override c ≡ false
 no_override Override h = absurd (h refl)
 no_override _ h = refl
-
-pub no_escape : (c : Class) → (c ≡ Escape → ⊥) → is_escape c ≡ false
-no_escape Escape h = absurd (h refl)
-no_escape _ h = refl
-
-pub is_built : (c : Class) → (c ≡ NotBuilt → ⊥) → is_not_built c ≡ false
-is_built NotBuilt h = absurd (h refl)
-is_built _ h = refl
-
-pub is_defined : (c : Class) → (c ≡ Undefined → ⊥) → is_undefined c ≡ false
-is_defined Undefined h = absurd (h refl)
-is_defined _ h = refl

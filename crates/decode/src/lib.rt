@@ -33,6 +33,7 @@ fn prefixed(s: &Code, t: &Classes) -> Result<Fetched, Reply>
 }
 
 // The opcode: 256 and up after 0F.
+#[tactic(auto, unfolding(crate::specs::Decode::opcode, crate::specs::Decode::escaped))]
 fn opcode(s: &Code, t: &Classes) -> Result<Fetched, Reply>
     ensures { OpcodeOk s.now result }
 {
@@ -109,6 +110,7 @@ fn displaced(
     })
 }
 
+#[tactic(auto, unfolding(crate::specs::Decode::after_sib))]
 fn after_sib(s: &Code, n: u32, md: u32, b: u32) -> Result<Formed, Reply>
     ensures { formed_of s.now.eip result ≡ after_sib s.now.eip md b (shown s.now) (log_at s.now.eip n) }
 {
@@ -122,6 +124,7 @@ fn after_sib(s: &Code, n: u32, md: u32, b: u32) -> Result<Formed, Reply>
 }
 
 // What follows the ModRM byte b.
+#[tactic(auto, unfolding(crate::specs::Decode::after_modrm))]
 fn after_modrm(s: &Code, n: u32, b: u32) -> Result<Formed, Reply>
     ensures { formed_of s.now.eip result ≡ after_modrm s.now.eip b (shown s.now) (log_at s.now.eip n) }
 {
@@ -150,6 +153,7 @@ fn after_modrm(s: &Code, n: u32, b: u32) -> Result<Formed, Reply>
 }
 
 // The immediate, and the whole instruction.
+#[tactic(auto, unfolding(crate::specs::Decode::finish))]
 fn finish(s: &Code, n: u32, c: Class, b: u32, reg: u32, o: Operand) -> Result<Instruction, Reply>
     ensures { ready_of s.now.eip result ≡ finish s.now.eip c b reg o (shown s.now) (log_at s.now.eip n) }
 {
@@ -165,6 +169,7 @@ fn finish(s: &Code, n: u32, c: Class, b: u32, reg: u32, o: Operand) -> Result<In
     })
 }
 
+#[tactic(auto, unfolding(crate::specs::Decode::with_modrm, crate::specs::Decode::judged))]
 fn with_modrm(s: &Code, n: u32, c: Class, b: u32) -> Result<Instruction, Reply>
     ensures { ready_of s.now.eip result ≡ with_modrm s.now.eip c b (shown s.now) (log_at s.now.eip n) }
 {
@@ -181,6 +186,7 @@ fn with_modrm(s: &Code, n: u32, c: Class, b: u32) -> Result<Instruction, Reply>
 }
 
 // A0 to A3: the address stands in the instruction.
+#[tactic(auto, unfolding(crate::specs::Decode::with_offset))]
 fn with_offset(s: &Code, n: u32, c: Class, b: u32) -> Result<Instruction, Reply>
     ensures { ready_of s.now.eip result ≡ with_offset s.now.eip c b (shown s.now) (log_at s.now.eip n) }
 {
@@ -196,6 +202,7 @@ fn with_offset(s: &Code, n: u32, c: Class, b: u32) -> Result<Instruction, Reply>
     finish(s, x.length, c, b, 0, o)
 }
 
+#[tactic(auto, unfolding(crate::specs::Decode::classed))]
 fn classed(s: &Code, n: u32, c: Class, b: u32) -> Result<Instruction, Reply>
     ensures { ready_of s.now.eip result ≡ classed s.now.eip c b (shown s.now) (log_at s.now.eip n) }
 {
@@ -222,6 +229,7 @@ fn classed(s: &Code, n: u32, c: Class, b: u32) -> Result<Instruction, Reply>
 }
 
 // The instruction at eip.
+#[tactic(auto, unfolding(crate::specs::Decode::decode))]
 pub fn decode(mem: &[u8], k: Control, t: &Classes, eip: u32) -> Result<Instruction, Reply>
     requires { length mem.now % 4096 ≡ 0 }
     ensures { ready_of eip result ≡ decode eip (view mem.now k) (log_at eip 0) }
