@@ -53,6 +53,7 @@ pub fn logic<W: Word>(r: W, s: Status) -> Out
     brief::out_in(brief::logic(r, brief::kept(s)))
 }
 
+// Stays: the operation is the opcode's own bits or the reg field, which decoding takes over as they are; an enum would put a second match before this one.
 #[tactic(auto, unfolding(crate::specs::Arithmetic::operation))]
 fn operate_at<W: Word>(op: u32, a: W, b: W, s: Status) -> Out
     ensures { result ≡ operation op (bits W.wide) (W.number a) (W.number b) s }
@@ -106,6 +107,7 @@ fn keep_carry(s: Status, o: Out) -> Out
     }
 }
 
+// Stays: as `operate_at`.
 #[tactic(auto, unfolding(crate::specs::Arithmetic::single))]
 fn single_at<W: Word>(op: u32, a: W, s: Status) -> Out
     ensures { result ≡ single op (bits W.wide) (W.number a) s }

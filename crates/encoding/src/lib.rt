@@ -522,6 +522,7 @@ fn is_single(c: Class, reg: u32) -> bool
     }
 }
 
+// Stays: the numbers are the reg field's, /2, /4 and /6 in the manual.
 fn group_family(reg: u32) -> Family
     ensures { result ≡ group_family reg }
 {

@@ -18,6 +18,7 @@ fn with_carry(f: Flags, b: bool) -> Flags
     }
 }
 
+// Stays: the operation is the opcode's last digit, as the manual lists these opcodes.
 fn changed(op: u32, f: Flags) -> Flags
     ensures { result ≡ changed op f }
 {

@@ -37,6 +37,7 @@ pub fn jump_to(i: Instruction, k: Core, a: u32) -> Effect
 }
 
 // Does a LOOP form go on, by ZF?
+// Stays: the operation is the opcode's last two bits.
 fn by_zero_flag(op: u32, zf: bool) -> bool
     ensures { result ≡ again op zf }
 {

@@ -247,6 +247,7 @@ fn with_number(kind: u32, length: u32, a: u32, b: u32, number: u32) -> Option<Fo
 }
 
 // Pushes of a number, jumps and calls, by their opcodes.
+// Stays: these are opcodes, as the manual writes them.
 fn by_opcode(mem: &[u8], i: usize, b: u32, m: u32) -> Option<Form>
     requires { (i + 16 ≤ length mem.now) × ((b ≡ at mem.now i) × ((m ≡ at mem.now (i + 1)) × (m < 256))) }
     ensures { IfSome result (λ f. ReadOk mem.now i f) }

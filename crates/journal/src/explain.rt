@@ -42,6 +42,7 @@ fn page_fault<W: Write>(
     )
 }
 
+// Stays: a vector is a number of the machine's.
 fn fault<W: Write>(
     out: &mut W,
     mem: &[u8],
@@ -65,6 +66,7 @@ fn fault<W: Write>(
     }
 }
 
+// Stays: a vector is a number of the machine's.
 fn trap(vector: u32) -> &'static str {
     match vector {
         3 => "breakpoint",

@@ -17,6 +17,7 @@ pub struct Effect {
 }
 
 // An index times its scale.
+// Stays: a scale is the number itself, 1, 2, 4 or 8.
 pub fn scaled(x: u32, s: u32) -> u64
     ensures { (result ≡ scaled x s) × (result ≤ 34359738360) }
 {

@@ -2,7 +2,7 @@
 #![tactic(auto)]
 
 ghost use Rattle.std.specs.Prelude.{◌≡◌, ◌<◌, true, false, slice_index, slice_set};
-ghost use Rattle.machine.specs.Record.{read_at, with_register, write_at, replaced};
+ghost use Rattle.machine.specs.Record.{read_at, with_register, write_at};
 ghost use Rattle.products.specs.Products.{product};
 ghost use Rattle.shifts.specs.Shifts.{shifted};
 ghost use Rattle.alu.specs.Arithmetic.{bits};
@@ -36,11 +36,7 @@ pub struct Fast {
 pub fn register(e: &[u32], n: u32) -> u32
     ensures { result ≡ slice_index e.now n }
 {
-    let i = n as usize;
-    if i < e.len() {
-        return e[i];
-    }
-    0
+    cells::get(e, n as usize, 0)
 }
 
 // A dword register or a byte's.
@@ -122,33 +118,15 @@ pub fn bytes(op: u32, x: u32, y: u32, f: Brief) -> Short
     operate_at(op, u8::low(x), u8::low(y), f)
 }
 
-fn put(e: &mut [u32], n: u32, x: u32)
-    ensures { e.new ≡ slice_set e.old n x }
-{
-    let i = n as usize;
-    if i < e.len() {
-        e[i] = x;
-    }
-}
-
-fn replaced(old: u32, n: u32, x: u32) -> u32
-    ensures { result ≡ replaced old n x }
-{
-    if n / 4 % 2 == 1 {
-        return old / 65536 * 65536 + x % 256 * 256 + old % 256;
-    }
-    old / 256 * 256 + x % 256
-}
-
 fn write(e: &mut [u32], w: bool, n: u32, x: u32)
     ensures { e.new ≡ (write_at w (file e.old) n x).e }
 {
     if w {
-        put(e, n, x);
+        cells::put(e, n as usize, x);
         return;
     }
     let old = register(e, n % 4);
-    put(e, n % 4, replaced(old, n, x));
+    cells::put(e, (n % 4) as usize, machine::replaced(old, n, x));
 }
 
 // ESP, after a push, a pop or a return.
@@ -156,11 +134,11 @@ pub fn restack(e: &mut [u32], p: Fast)
     ensures { e.new ≡ (stacked p (file e.old)).e }
 {
     if p.access == 4 {
-        put(e, 4, p.at);
+        cells::put(e, 4, p.at);
         return;
     }
     if (p.access == 5) | (p.access == 6) {
-        put(e, 4, std::num::wrapping_add_u32(p.at, 4));
+        cells::put(e, 4, std::num::wrapping_add_u32(p.at, 4));
     }
 }
 
@@ -178,7 +156,7 @@ pub fn double(e: &mut [u32], p: Fast, f: Brief) -> Brief
     ensures { (e.new ≡ (with_register (with_register (file e.old) 0 (doubled_in p e.old (status_in f)).low) 2 (doubled_in p e.old (status_in f)).high).e) × (status_in result ≡ (doubled_in p e.old (status_in f)).status) }
 {
     let q = products::multiply_brief(false, register(e, 0), p.x, f);
-    put(e, 0, q.low);
-    put(e, 2, q.high);
+    cells::put(e, 0, q.low);
+    cells::put(e, 2, q.high);
     q.flags
 }

@@ -62,6 +62,7 @@ fn sar<W: Word>(n: u32, v: W, f: Brief) -> Short
 }
 
 // By the reg field, n places, with the flags in brief.
+// Stays: the operation is the reg field itself.
 #[tactic(auto, unfolding(crate::specs::Shifts::shifted))]
 pub fn shift_brief<W: Word>(op: u32, n: u32, v: W, f: Brief) -> Short
     requires { (0 < n) × (n < 32) }

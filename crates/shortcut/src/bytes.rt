@@ -3,7 +3,7 @@ ghost use Rattle.std.specs.Prelude.{◌≡◌, ℕ, ◌+◌, ◌/◌, ◌%◌, �
 ghost use Rattle.machine.specs.Record.{Mem, at};
 ghost use Rattle.machine.specs.Paging.{dword_at};
 ghost use Rattle.decode.specs.Decode.{in_memory, index_of, scale_of};
-ghost use Rattle.operands.specs.Operands.{scaled, address};
+ghost use Rattle.operands.specs.Operands.{address};
 ghost use Rattle.outcome.specs.Outcome.{file};
 ghost use Rattle.shortcut.specs.Bytes.{sib_at, sib_bytes, operand_at, operand_bytes};
 ghost use Rattle.shortcut.specs.Forms.{number_at, spot_of, up_to};
@@ -15,24 +15,18 @@ pub struct Spot {
     pub upto: u32,
 }
 
-fn wide(x: u8) -> u32
-    ensures { (result ≡ x) × (result < 256) }
-{
-    x as u32
-}
-
 pub fn byte(mem: &[u8], i: usize) -> u32
     requires { i < length mem.now }
     ensures { (result ≡ at mem.now i) × (result < 256) }
 {
-    wide(mem[i])
+    paging::present_byte(mem, i)
 }
 
 pub fn dword(mem: &[u8], i: usize) -> u32
     requires { i + 3 < length mem.now }
     ensures { result ≡ dword_at mem.now i }
 {
-    wide(mem[i]) + 256 * wide(mem[i + 1]) + 65536 * wide(mem[i + 2]) + 16777216 * wide(mem[i + 3])
+    paging::present_dword(mem, i)
 }
 
 // An immediate of four bytes, or of one with its sign.
@@ -46,28 +40,12 @@ pub fn number(mem: &[u8], j: usize, long: bool) -> u32
     fetch::extend(byte(mem, j))
 }
 
-fn times(x: u32, s: u32) -> u64
-    ensures { (result ≡ scaled x s) × (result ≤ 34359738360) }
-{
-    let i = x as u64;
-    if s == 1 {
-        return i;
-    }
-    if s == 2 {
-        return 2 * i;
-    }
-    if s == 4 {
-        return 4 * i;
-    }
-    8 * i
-}
-
 fn place(e: &[u32], base: u32, index: u32, scale: u32, x: u32) -> u32
     ensures { result ≡ address (file e.now) (in_memory base index scale x) }
 {
     let b = outcome::register(e, base);
     let i = outcome::register(e, index);
-    ((b as u64 + times(i, scale) + x as u64) % 4294967296) as u32
+    ((b as u64 + operands::scaled(i, scale) + x as u64) % 4294967296) as u32
 }
 
 // With the index and the scale of the SIB byte s.

@@ -5,6 +5,7 @@ ghost use Rattle.conditions.specs.Conditions.{holds};
 
 use alu::brief::Brief;
 
+// Stays: the condition is the opcode's low four bits.
 pub fn holds(n: u32, f: Brief) -> bool
     ensures { result ≡ holds n (status_in f) }
 {

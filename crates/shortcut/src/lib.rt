@@ -190,6 +190,7 @@ fn numbered(mem: &[u8], e: &[u32], eip: u32, i: usize, c: Class, b: u32, m: u32)
 }
 
 // Shifts, products, jumps and calls, by their opcodes.
+// Stays: these are opcodes, as the manual writes them.
 fn by_opcode(mem: &[u8], e: &[u32], eip: u32, i: usize, b: u32, m: u32) -> Fast
     requires { (i + 16 ≤ length mem.now) × ((b ≡ at mem.now i) × ((m ≡ at mem.now (i + 1)) × (m < 256))) }
     ensures { (s : Status) → FastOk mem.now e.now s eip i result }

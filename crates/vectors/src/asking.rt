@@ -47,6 +47,7 @@ pub fn generated(case: &[u8], call: Call) -> Ask {
 }
 
 // A number that names no other call stands for a step.
+// Stays: the numbers are those of the file of cases.
 fn call_of(number: u8, budget: u32) -> Call {
     match number {
         1 => Call::Run(budget),
