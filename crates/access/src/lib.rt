@@ -18,6 +18,7 @@ pub struct Trail {
 }
 
 // Where an access lies: nowhere, one byte, a dword on one page, or its four bytes over two.
+// Stays: four ways to lie are no Option.
 #[derive(Clone, Copy)]
 pub enum Place {
     Nowhere,

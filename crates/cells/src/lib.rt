@@ -45,6 +45,7 @@ pub fn put_dword(b: &mut [u8], at: u32, x: u32)
 }
 
 // n bytes of one slice, from place a on, to place b on of another.
+// Stays: as two slices it would have to refuse, or say nothing of, what lies past an end, where zeros are read and nothing is stored.
 pub fn copy(from: &[u8], a: u32, to: &mut [u8], b: u32, n: u32)
     ensures { to.new ≡ copied from.now a to.old b n }
 {

@@ -111,6 +111,7 @@ pub enum Class {
 }
 
 // The class with this number in the table.
+// Stays: the table holds numbers (src/opcodes).
 impl From<u8> for Class {
     ghost from_gives = { λ n c. c ≡ class_at n };
 
@@ -412,6 +413,7 @@ fn has_immediate(c: Class) -> bool
     )
 }
 
+// Stays: one line with a name that says what it chooses.
 fn four_or_one(four: bool) -> u32
     ensures { result ≡ cond four 4 1 }
 {

@@ -3,6 +3,7 @@ ghost use Rattle.std.specs.Prelude.{◌≡◌, true, false, ◌||◌, ◌==◌};
 ghost use Rattle.machine.specs.Commit.{mark};
 
 // What became of a frame: nothing, marks in the low bytes of its dwords alone, or something else.
+// Stays: a frame with marks alone is neither changed nor the same, which is no Option.
 #[derive(Clone, Copy, PartialEq, Eq)]
 pub enum Change {
     Nothing,

@@ -8,6 +8,7 @@ ghost use Rattle.machine.specs.Replies.{is_done, numbered};
 use alu::Status;
 
 // What a step, a run or an audit answers. `numbered` in specs/Replies gives each its number.
+// Stays: the numbered answers, which C reads.
 #[derive(Clone, Copy, PartialEq, Eq)]
 pub enum Reply {
     Done,
@@ -107,6 +108,7 @@ pub struct Cpu {
 }
 
 // An access that an instruction asks for: of a dword (true) or a byte, at a linear address. What is read and written is a Write.
+// Stays: an Option of a read or a write would be matched in two steps wherever it is.
 #[derive(Clone, Copy, PartialEq, Eq)]
 pub enum Want {
     Nothing,

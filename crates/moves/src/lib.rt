@@ -51,6 +51,7 @@ pub fn set(i: Instruction, k: Core) -> Effect
     operands::went(regs, operands::next(i, k), k.flags, x)
 }
 
+// Stays: beside `signed_byte` this is one line, and one function for both would take two constants to save it.
 fn signed_word(x: u32) -> u32
     requires { x < 65536 }
     ensures { result ≡ signed_word x }

@@ -75,6 +75,7 @@ fn shifted(op: u32, x: u32, n: u32, f: Brief) -> Short
 }
 
 // What dwords and bytes have in common.
+// Stays: the operation is the number that the definition has, up to 9 as for two operands.
 #[tactic(auto, unfolding(crate::specs::Outcome::operated, alu::specs::Arithmetic::operation, alu::specs::Arithmetic::single))]
 fn operate_at<W: Word>(op: u32, x: W, y: W, f: Brief) -> Short
     ensures { out_in result ≡ operated op (bits W.wide) (W.number x) (W.number y) (status_in f) }

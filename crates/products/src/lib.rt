@@ -63,6 +63,7 @@ fn in_range(top: u64, negative: bool, m: u64) -> bool
 }
 
 // A product, and whether its upper half matters.
+// Stays: the flag is no word on the product, which is there either way.
 #[derive(Clone, Copy)]
 struct Whole {
     all: u64,

@@ -229,6 +229,7 @@ fn by_opcode(mem: &[u8], e: &[u32], eip: u32, i: usize, b: u32, m: u32) -> Fast
 }
 
 // PUSH of an immediate.
+// Stays: these are opcodes, as the manual writes them.
 fn push_number(mem: &[u8], e: &[u32], eip: u32, i: usize, b: u32) -> Fast
     requires { (i + 16 ≤ length mem.now) × (b ≡ at mem.now i) }
     ensures { (s : Status) → FastOk mem.now e.now s eip i result }
