@@ -111,63 +111,62 @@ pub enum Class {
 }
 
 // The class with this number in the table.
-// Stays: the table holds numbers (src/opcodes).
-impl From<u8> for Class {
-    ghost from_gives = { λ n c. c ≡ class_at n };
-
-    fn from(n: u8) -> Class {
-        match n {
-            0 => Class::NotBuilt,
-            1 => Class::Override,
-            2 => Class::Escape,
-            3 => Class::Undefined,
-            4 => Class::ArithmeticTo,
-            5 => Class::ArithmeticFrom,
-            6 => Class::ArithmeticAccumulator,
-            7 => Class::ArithmeticGroup,
-            8 => Class::TestTo,
-            9 => Class::TestAccumulator,
-            10 => Class::UnaryGroup,
-            11 => Class::MoveTo,
-            12 => Class::MoveFrom,
-            13 => Class::MoveFromOffset,
-            14 => Class::MoveToOffset,
-            15 => Class::MoveRegister,
-            16 => Class::MoveGroup,
-            17 => Class::ExtendZero,
-            18 => Class::ExtendSign,
-            19 => Class::LoadAddress,
-            20 => Class::Exchange,
-            21 => Class::ExchangeAccumulator,
-            22 => Class::IncrementRegister,
-            23 => Class::DecrementRegister,
-            24 => Class::ByteGroup,
-            25 => Class::DwordGroup,
-            26 => Class::PushRegister,
-            27 => Class::PushImmediate,
-            28 => Class::PopRegister,
-            29 => Class::PopGroup,
-            30 => Class::ShiftImmediate,
-            31 => Class::ShiftOne,
-            32 => Class::ShiftCl,
-            33 => Class::MultiplyImmediate,
-            34 => Class::MultiplyRegister,
-            35 => Class::Widen,
-            36 => Class::JumpIf,
-            37 => Class::JumpIfNear,
-            38 => Class::SetIf,
-            39 => Class::JumpBy,
-            40 => Class::CallBy,
-            41 => Class::ReturnPlain,
-            42 => Class::ReturnPopping,
-            43 => Class::LoopBy,
-            44 => Class::FlagOperation,
-            45 => Class::FlagTransfer,
-            46 => Class::Breakpoint,
-            47 => Class::Interrupt,
-            48 => Class::HaltHere,
-            _ => Class::NotBuilt,
-        }
+// Stays: the table holds numbers (src/opcodes), and as TryFrom this would test each number that is read.
+fn numbered(n: u8) -> Class
+    requires { n < 49 }
+    ensures { result ≡ class_at n }
+{
+    match n {
+        0 => Class::NotBuilt,
+        1 => Class::Override,
+        2 => Class::Escape,
+        3 => Class::Undefined,
+        4 => Class::ArithmeticTo,
+        5 => Class::ArithmeticFrom,
+        6 => Class::ArithmeticAccumulator,
+        7 => Class::ArithmeticGroup,
+        8 => Class::TestTo,
+        9 => Class::TestAccumulator,
+        10 => Class::UnaryGroup,
+        11 => Class::MoveTo,
+        12 => Class::MoveFrom,
+        13 => Class::MoveFromOffset,
+        14 => Class::MoveToOffset,
+        15 => Class::MoveRegister,
+        16 => Class::MoveGroup,
+        17 => Class::ExtendZero,
+        18 => Class::ExtendSign,
+        19 => Class::LoadAddress,
+        20 => Class::Exchange,
+        21 => Class::ExchangeAccumulator,
+        22 => Class::IncrementRegister,
+        23 => Class::DecrementRegister,
+        24 => Class::ByteGroup,
+        25 => Class::DwordGroup,
+        26 => Class::PushRegister,
+        27 => Class::PushImmediate,
+        28 => Class::PopRegister,
+        29 => Class::PopGroup,
+        30 => Class::ShiftImmediate,
+        31 => Class::ShiftOne,
+        32 => Class::ShiftCl,
+        33 => Class::MultiplyImmediate,
+        34 => Class::MultiplyRegister,
+        35 => Class::Widen,
+        36 => Class::JumpIf,
+        37 => Class::JumpIfNear,
+        38 => Class::SetIf,
+        39 => Class::JumpBy,
+        40 => Class::CallBy,
+        41 => Class::ReturnPlain,
+        42 => Class::ReturnPopping,
+        43 => Class::LoopBy,
+        44 => Class::FlagOperation,
+        45 => Class::FlagTransfer,
+        46 => Class::Breakpoint,
+        47 => Class::Interrupt,
+        48 => Class::HaltHere,
+        _ => unreachable!(),
     }
 }
 
@@ -255,24 +254,17 @@ pub struct Instruction {
 }
 
 // The table of an opcode's class by its number, as the list has it.
+#[derive(Drop)]
 pub struct Classes {
     numbers: [u8; 512],
     ghost classed: { Classed numbers },
 }
 
-impl Classes {
-    pub fn new() -> Classes {
-        Classes {
-            numbers: opcodes::CLASSES,
-        }
-    }
-
-    pub fn at(&self, n: u32) -> Class
-        requires { n < 512 }
-        ensures { result ≡ class_of n }
-    {
-        Class::from(self.numbers[n as usize])
-    }
+pub fn class_in(t: &[u8; 512], n: u32) -> Class
+    requires { (Classed t.now) × (n < 512) }
+    ensures { result ≡ class_of n }
+{
+    numbered(t[n as usize])
 }
 
 pub fn has_modrm(c: Class) -> bool
