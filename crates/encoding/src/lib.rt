@@ -260,11 +260,19 @@ pub struct Classes {
     ghost classed: { Classed numbers },
 }
 
-pub fn class_in(t: &[u8; 512], n: u32) -> Class
-    requires { (Classed t.now) × (n < 512) }
-    ensures { result ≡ class_of n }
-{
-    numbered(t[n as usize])
+impl Classes {
+    pub fn new() -> Classes {
+        Classes {
+            numbers: opcodes::CLASSES,
+        }
+    }
+
+    pub fn at(&self, n: u32) -> Class
+        requires { n < 512 }
+        ensures { result ≡ class_of n }
+    {
+        numbered(self.numbers[n as usize])
+    }
 }
 
 pub fn has_modrm(c: Class) -> bool

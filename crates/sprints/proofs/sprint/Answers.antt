@@ -36,7 +36,7 @@ pub loop-n-smaller : goal.loop-n-smaller
 loop-n-smaller c = let q = goes_on _ _ (c.trace-w.result.count) (c.if-moves-keeps.false) in let k = c.trace-w.ensures.0 in let l = c.loop-n-test.true in omega (arith, q.1, k, l)
 
 pub loop-n-preserved : goal.loop-n-preserved
-loop-n-preserved c = let q = goes_on _ _ (c.trace-w.result.count) (c.if-moves-keeps.false) in let k = c.trace-w.ensures.0 in let l = c.loop-n-test.true in (omega (arith, k, l), c.loop-n.invariant.1, c.loop-n.invariant.2, c.find-s.ensures.1.1.0, c.loop-n.invariant.3, on _ _ _ _ _ _ _ _ _ _ (c.loop-n.invariant.4) _ _ _ (c.trace-w.ensures.1) (sym c.keeps.ensures ∙ q.0))
+loop-n-preserved c = let q = goes_on _ _ (c.trace-w.result.count) (c.if-moves-keeps.false) in let k = c.trace-w.ensures.0 in let l = c.loop-n-test.true in (omega (arith, k, l), c.loop-n.invariant.1, c.find-s.ensures.1.1.0, c.loop-n.invariant.3, on _ _ _ _ _ _ _ _ _ _ (c.loop-n.invariant.4) _ _ _ (c.trace-w.ensures.1) (sym c.keeps.ensures ∙ q.0))
 
 pub returns : goal.returns
 returns c = (c.loop-n.invariant.0, (paused _ _ _ _ _ _ _ _ _ _ (c.loop-n.invariant.4), c.loop-n.invariant.2))
