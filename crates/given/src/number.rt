@@ -1,6 +1,7 @@
 // Numbers of 32 bits, in decimal or hexadecimal.
 
 // All of s, digit by digit; none at all is no number.
+// Stays: `from_str_radix` takes a sign, which is no digit here.
 fn digits(s: &[u8], base: u32) -> Option<u32> {
     if s.is_empty() {
         return None;
