@@ -4,11 +4,19 @@
 ghost use Rattle.std.specs.Prelude.{◌≡◌, ℕ, ◌+◌, ◌*◌, ◌/◌, ◌%◌, ◌^◌, ◌<◌, ◌≤◌, Bool, true, false, cond, length, set, slice_set};
 ghost use Rattle.machine.specs.Record.{at};
 ghost use Rattle.machine.specs.Commit.{mark, patch, patches};
-ghost use Rattle.paging.specs.Walked.{patches_of};
+ghost use Rattle.paging.specs.Walked.{Walked, patches_of};
 ghost use Rattle.access.specs.Located.{asked, LocatedOk, TrailOk, trail_marks, placed, puts, nowhere};
 
 use machine::{Control, Reply, Want};
-use paging::{Entries, Linear, Physical};
+use paging::{Entries, Linear, Physical, Reached};
+
+// Memory as a step sees it, by the maps of these control registers: whole pages of it.
+#[derive(Clone, Copy)]
+pub struct View<'a> {
+    pub mem: &'a [u8],
+    pub control: Control,
+    pub ghost size: { length mem.now % 4096 ≡ 0 },
+}
 
 // The pages that an access used: the second is None where there is one.
 #[derive(Clone, Copy)]
@@ -35,50 +43,6 @@ pub struct Access {
     pub trail: Trail,
 }
 
-// Stays: where an access's translation is refused, the step ends there with that reply, by `let .. else` and not by `?`: the project names this form
-// (docs/DECISIONS.md, "Forms").
-
-// One byte; w: is it a write.
-fn single(mem: &[u8], c: Control, w: bool, l: u32) -> Result<Access, Reply>
-    ensures { LocatedOk mem.now c (asked w false l) result }
-{
-    let answer = paging::translate(mem, c, w, Linear(l));
-    let Ok(t) = answer else {
-        return Err(answer.unwrap_err());
-    };
-    let value = paging::byte_at(mem, t.place.index());
-    Ok(Access {
-        place: Place::Byte(t.place),
-        value,
-        write: w,
-        trail: Trail {
-            first: t.entries,
-            last: None,
-        },
-    })
-}
-
-// A dword on one page.
-fn near(mem: &[u8], c: Control, w: bool, l: u32) -> Result<Access, Reply>
-    requires { (length mem.now % 4096 ≡ 0) × (l % 4096 ≤ 4092) }
-    ensures { LocatedOk mem.now c (asked w true l) result }
-{
-    let answer = paging::translate(mem, c, w, Linear(l));
-    let Ok(t) = answer else {
-        return Err(answer.unwrap_err());
-    };
-    let value = paging::dword_at(mem, t.place);
-    Ok(Access {
-        place: Place::Near(t.place),
-        value,
-        write: w,
-        trail: Trail {
-            first: t.entries,
-            last: None,
-        },
-    })
-}
-
 fn gather(mem: &[u8], i: Physical, j: Physical, k: Physical, l: Physical) -> u32
     ensures { result ≡ at mem.now i.0 + 256 * at mem.now j.0 + 65536 * at mem.now k.0 + 16777216 * at mem.now l.0 }
 {
@@ -88,52 +52,6 @@ fn gather(mem: &[u8], i: Physical, j: Physical, k: Physical, l: Physical) -> u32
         cells::get(mem, k.index(), 0),
         cells::get(mem, l.index(), 0),
     ])
-}
-
-// A dword over two pages: the first page's checks are finished before the second's.
-fn across(mem: &[u8], c: Control, w: bool, l: u32) -> Result<Access, Reply>
-    requires { length mem.now % 4096 ≡ 0 }
-    ensures { LocatedOk mem.now c (asked w true l) result }
-{
-    let answer0 = paging::translate(mem, c, w, Linear(l));
-    let Ok(t0) = answer0 else {
-        return Err(answer0.unwrap_err());
-    };
-    let answer1 = paging::translate(mem, c, w, Linear(l.wrapping_add(1)));
-    let Ok(t1) = answer1 else {
-        return Err(answer1.unwrap_err());
-    };
-    let answer2 = paging::translate(mem, c, w, Linear(l.wrapping_add(2)));
-    let Ok(t2) = answer2 else {
-        return Err(answer2.unwrap_err());
-    };
-    let answer3 = paging::translate(mem, c, w, Linear(l.wrapping_add(3)));
-    let Ok(t3) = answer3 else {
-        return Err(answer3.unwrap_err());
-    };
-    let value = gather(mem, t0.place, t1.place, t2.place, t3.place);
-    Ok(Access {
-        place: Place::Across(t0.place, t1.place, t2.place, t3.place),
-        value,
-        write: w,
-        trail: Trail {
-            first: t0.entries,
-            last: t3.entries,
-        },
-    })
-}
-
-fn find(mem: &[u8], c: Control, w: bool, wide: bool, l: u32) -> Result<Access, Reply>
-    requires { length mem.now % 4096 ≡ 0 }
-    ensures { LocatedOk mem.now c (asked w wide l) result }
-{
-    if !wide {
-        return single(mem, c, w, l);
-    }
-    if l % 4096 <= 4092 {
-        return near(mem, c, w, l);
-    }
-    across(mem, c, w, l)
 }
 
 pub fn nowhere() -> Access
@@ -150,30 +68,128 @@ pub fn nowhere() -> Access
     }
 }
 
-// The access that an instruction asks for; memory is only read.
-pub fn locate(mem: &[u8], c: Control, want: Want) -> Result<Access, Reply>
-    requires { length mem.now % 4096 ≡ 0 }
-    ensures { LocatedOk mem.now c want result }
-{
-    match want {
-        Want::Nothing => Ok(nowhere()),
-        Want::Read(wide, l) => find(mem, c, false, wide, l),
-        Want::Write(wide, l) => find(mem, c, true, wide, l),
+impl<'a> View<'a> {
+    // From a linear address to a physical one, or the refusal; w: is it a write.
+    pub fn translate(&self, w: bool, l: Linear) -> Result<Reached, Reply>
+        ensures { Walked self.now.mem.now self.now.control w l.0 result }
+    {
+        paging::translate(self.mem, self.control, w, l)
     }
-}
 
-// The pages that the n bytes of an instruction lie on.
-pub fn code_trail(mem: &[u8], c: Control, eip: u32, n: u32) -> Trail
-    requires { (length mem.now % 4096 ≡ 0) × ((0 < n) × (n < 16)) }
-    ensures { TrailOk mem.now c eip n result }
-{
-    let first = paging::translate(mem, c, false, Linear(eip)).map_or(None, |t| t.entries);
-    if eip % 4096 + n <= 4096 {
-        return Trail { first, last: None };
+    // Stays: where an access's translation is refused, the step ends there with that reply, by `let .. else` and not by `?`: the project names this form
+    // (docs/DECISIONS.md, "Forms").
+
+    // One byte; w: is it a write.
+    fn single(&self, w: bool, l: u32) -> Result<Access, Reply>
+        ensures { LocatedOk self.now.mem.now self.now.control (asked w false l) result }
+    {
+        let answer = self.translate(w, Linear(l));
+        let Ok(t) = answer else {
+            return Err(answer.unwrap_err());
+        };
+        let value = paging::byte_at(self.mem, t.place.index());
+        Ok(Access {
+            place: Place::Byte(t.place),
+            value,
+            write: w,
+            trail: Trail {
+                first: t.entries,
+                last: None,
+            },
+        })
     }
-    let end = Linear(eip.wrapping_add(n - 1));
-    let last = paging::translate(mem, c, false, end).map_or(None, |t| t.entries);
-    Trail { first, last }
+
+    // A dword on one page.
+    fn near(&self, w: bool, l: u32) -> Result<Access, Reply>
+        requires { l % 4096 ≤ 4092 }
+        ensures { LocatedOk self.now.mem.now self.now.control (asked w true l) result }
+    {
+        let answer = self.translate(w, Linear(l));
+        let Ok(t) = answer else {
+            return Err(answer.unwrap_err());
+        };
+        let value = paging::dword_at(self.mem, t.place);
+        Ok(Access {
+            place: Place::Near(t.place),
+            value,
+            write: w,
+            trail: Trail {
+                first: t.entries,
+                last: None,
+            },
+        })
+    }
+
+    // A dword over two pages: the first page's checks are finished before the second's.
+    fn across(&self, w: bool, l: u32) -> Result<Access, Reply>
+        ensures { LocatedOk self.now.mem.now self.now.control (asked w true l) result }
+    {
+        let answer0 = self.translate(w, Linear(l));
+        let Ok(t0) = answer0 else {
+            return Err(answer0.unwrap_err());
+        };
+        let answer1 = self.translate(w, Linear(l.wrapping_add(1)));
+        let Ok(t1) = answer1 else {
+            return Err(answer1.unwrap_err());
+        };
+        let answer2 = self.translate(w, Linear(l.wrapping_add(2)));
+        let Ok(t2) = answer2 else {
+            return Err(answer2.unwrap_err());
+        };
+        let answer3 = self.translate(w, Linear(l.wrapping_add(3)));
+        let Ok(t3) = answer3 else {
+            return Err(answer3.unwrap_err());
+        };
+        let value = gather(self.mem, t0.place, t1.place, t2.place, t3.place);
+        Ok(Access {
+            place: Place::Across(t0.place, t1.place, t2.place, t3.place),
+            value,
+            write: w,
+            trail: Trail {
+                first: t0.entries,
+                last: t3.entries,
+            },
+        })
+    }
+
+    fn find(&self, w: bool, wide: bool, l: u32) -> Result<Access, Reply>
+        ensures { LocatedOk self.now.mem.now self.now.control (asked w wide l) result }
+    {
+        if !wide {
+            return self.single(w, l);
+        }
+        if l % 4096 <= 4092 {
+            return self.near(w, l);
+        }
+        self.across(w, l)
+    }
+
+    // The access that an instruction asks for; memory is only read.
+    pub fn locate(&self, want: Want) -> Result<Access, Reply>
+        ensures { LocatedOk self.now.mem.now self.now.control want result }
+    {
+        match want {
+            Want::Nothing => Ok(nowhere()),
+            Want::Read(wide, l) => self.find(false, wide, l),
+            Want::Write(wide, l) => self.find(true, wide, l),
+        }
+    }
+
+    // The pages that the n bytes of an instruction lie on.
+    pub fn code_trail(&self, eip: u32, n: u32) -> Trail
+        requires { (0 < n) × (n < 16) }
+        ensures { TrailOk self.now.mem.now self.now.control eip n result }
+    {
+        let first = self
+            .translate(false, Linear(eip))
+            .map_or(None, |t| t.entries);
+        if eip % 4096 + n <= 4096 {
+            return Trail { first, last: None };
+        }
+        let end = Linear(eip.wrapping_add(n - 1));
+        let last = self.translate(false, end).map_or(None, |t| t.entries);
+        Trail { first, last }
+    }
 }
 
 // An entry's low byte with its accessed bit set, and for a write its dirty bit.

@@ -14,7 +14,7 @@ use Rattle.decode.specs.Decode.{prefixed, opcode}
 
 -- what the code's step sees of memory
 abbrev pub shown : Code → View
-shown s = view s.mem.now s.control
+shown s = view s.view.mem.now s.view.control
 
 abbrev pub formed_of : ℕ → Result Formed Reply → Res Operand
 formed_of eip (Ok f) = ok f.operand (log_at eip f.length)

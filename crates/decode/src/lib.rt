@@ -1,15 +1,16 @@
 // Decoding, byte after byte from EIP, into one uniform Instruction.
 #![tactic(auto)]
 
-ghost use Rattle.std.specs.Prelude.{◌≡◌, ◌%◌, length};
+ghost use Rattle.std.specs.Prelude.{◌≡◌};
 ghost use Rattle.machine.specs.Paging.{view};
 ghost use Rattle.fetch.specs.Read.{log_at};
 ghost use Rattle.decode.specs.Decode.{scale_of, index_of, displacement_bytes, displaced, after_sib, after_modrm, finish, with_modrm, with_offset, classed, decode};
 ghost use Rattle.decode.specs.Read.{shown, PrefixOk, OpcodeOk, formed_of, ready_of};
 
+use access::View;
 use encoding::{Class, Classes, Instruction, Operand};
 use fetch::{Code, Fetched};
-use machine::{Control, Reply};
+use machine::Reply;
 
 // An operand, and how many bytes are fetched by then.
 #[derive(Clone, Copy)]
@@ -230,11 +231,10 @@ fn classed(s: &Code, n: u32, c: Class, b: u32) -> Result<Instruction, Reply>
 
 // The instruction at eip.
 #[tactic(auto, unfolding(crate::specs::Decode::decode))]
-pub fn decode(mem: &[u8], k: Control, t: &Classes, eip: u32) -> Result<Instruction, Reply>
-    requires { length mem.now % 4096 ≡ 0 }
-    ensures { ready_of eip result ≡ decode eip (view mem.now k) (log_at eip 0) }
+pub fn decode(v: &View, t: &Classes, eip: u32) -> Result<Instruction, Reply>
+    ensures { ready_of eip result ≡ decode eip (view v.now.mem.now v.now.control) (log_at eip 0) }
 {
-    let s = Code::open(mem, k, eip);
+    let s = Code::open(v, eip);
     let b = opcode(&s, t)?;
     let c = t.at(b.value);
     classed(&s, b.length, c, b.value)

@@ -7,19 +7,18 @@ ghost use Rattle.machine.specs.Paging.{At, translate, view};
 ghost use Rattle.fetch.specs.Fetch.{signed, fetch_signed, fetch_word, fetch_dword, number};
 ghost use Rattle.fetch.specs.Read.{log_at, FetchOk, got_of};
 
+use access::View;
 pub use alu::signed_byte as extend;
-use machine::{Control, Reply};
+use machine::Reply;
 use paging::{Linear, Physical};
 
 // The code at EIP as a step finds it; start: where its first byte lies, if its page was reached.
 #[derive(Clone, Copy)]
 pub struct Code<'a> {
-    pub mem: &'a [u8],
-    pub control: Control,
+    pub view: View<'a>,
     pub eip: u32,
     pub start: Option<Physical>,
-    pub ghost size: { length mem.now % 4096 ≡ 0 },
-    pub ghost reached: { ForSome start (λ p. translate mem.now control false eip ≡ At p.0) },
+    pub ghost reached: { ForSome start (λ p. translate view.mem.now view.control false eip ≡ At p.0) },
 }
 
 // A number, and how many bytes are fetched by then.
@@ -38,16 +37,12 @@ fn joined(a: u32, b: u32, c: u32, d: u32) -> u32
 
 impl<'a> Code<'a> {
     // Reaches the page of EIP, once.
-    pub fn open(mem: &'a [u8], control: Control, eip: u32) -> Code<'a>
-        requires { length mem.now % 4096 ≡ 0 }
-        ensures { (result.mem.now ≡ mem.now) × ((result.control ≡ control) × (result.eip ≡ eip)) }
+    pub fn open(view: &View<'a>, eip: u32) -> Code<'a>
+        ensures { (result.view.mem.now ≡ view.now.mem.now) × ((result.view.control ≡ view.now.control) × (result.eip ≡ eip)) }
     {
-        let start = paging::translate(mem, control, false, Linear(eip))
-            .ok()
-            .map(|t| t.place);
+        let start = view.translate(false, Linear(eip)).ok().map(|t| t.place);
         Code {
-            mem,
-            control,
+            view: *view,
             eip,
             start,
         }
@@ -56,19 +51,19 @@ impl<'a> Code<'a> {
     // The next byte, by a walk of its own.
     fn far_byte(&self, n: u32) -> Result<Fetched, Reply>
         requires { n < 15 }
-        ensures { FetchOk self.now.mem.now self.now.control self.now.eip n result }
+        ensures { FetchOk self.now.view.mem.now self.now.view.control self.now.eip n result }
     {
         let l = Linear(self.eip.wrapping_add(n));
-        let t = paging::translate(self.mem, self.control, false, l)?;
+        let t = self.view.translate(false, l)?;
         Ok(Fetched {
-            value: paging::byte_at(self.mem, t.place.index()),
+            value: paging::byte_at(self.view.mem, t.place.index()),
             length: n + 1,
         })
     }
 
     // The next byte of the instruction, after n.
     pub fn byte(&self, n: u32) -> Result<Fetched, Reply>
-        ensures { FetchOk self.now.mem.now self.now.control self.now.eip n result }
+        ensures { FetchOk self.now.view.mem.now self.now.view.control self.now.eip n result }
     {
         if 15 <= n {
             return Err(Reply::Fault(13, 0, 0));
@@ -76,7 +71,7 @@ impl<'a> Code<'a> {
         if self.eip % 4096 + n < 4096 {
             if let Some(p) = self.start {
                 return Ok(Fetched {
-                    value: paging::byte_at(self.mem, p.index() + n as usize),
+                    value: paging::byte_at(self.view.mem, p.index() + n as usize),
                     length: n + 1,
                 });
             }
@@ -86,7 +81,7 @@ impl<'a> Code<'a> {
 
     #[tactic(auto, unfolding(crate::specs::Fetch::fetch_word))]
     fn word(&self, n: u32) -> Result<Fetched, Reply>
-        ensures { got_of self.now.eip result ≡ fetch_word self.now.eip (view self.now.mem.now self.now.control) (log_at self.now.eip n) }
+        ensures { got_of self.now.eip result ≡ fetch_word self.now.eip (view self.now.view.mem.now self.now.view.control) (log_at self.now.eip n) }
     {
         let low = self.byte(n)?;
         let high = self.byte(low.length)?;
@@ -98,7 +93,7 @@ impl<'a> Code<'a> {
 
     #[tactic(auto, unfolding(crate::specs::Fetch::fetch_dword))]
     fn dword(&self, n: u32) -> Result<Fetched, Reply>
-        ensures { got_of self.now.eip result ≡ fetch_dword self.now.eip (view self.now.mem.now self.now.control) (log_at self.now.eip n) }
+        ensures { got_of self.now.eip result ≡ fetch_dword self.now.eip (view self.now.view.mem.now self.now.view.control) (log_at self.now.eip n) }
     {
         let b0 = self.byte(n)?;
         let b1 = self.byte(b0.length)?;
@@ -113,7 +108,7 @@ impl<'a> Code<'a> {
     // A byte, with its sign.
     #[tactic(auto, unfolding(crate::specs::Fetch::fetch_signed))]
     fn signed(&self, n: u32) -> Result<Fetched, Reply>
-        ensures { got_of self.now.eip result ≡ fetch_signed self.now.eip (view self.now.mem.now self.now.control) (log_at self.now.eip n) }
+        ensures { got_of self.now.eip result ≡ fetch_signed self.now.eip (view self.now.view.mem.now self.now.view.control) (log_at self.now.eip n) }
     {
         let b = self.byte(n)?;
         Ok(Fetched {
@@ -125,7 +120,7 @@ impl<'a> Code<'a> {
     // A displacement or an immediate of so many bytes.
     #[tactic(auto, unfolding(crate::specs::Fetch::number))]
     pub fn number(&self, n: u32, size: u32) -> Result<Fetched, Reply>
-        ensures { got_of self.now.eip result ≡ number self.now.eip size (view self.now.mem.now self.now.control) (log_at self.now.eip n) }
+        ensures { got_of self.now.eip result ≡ number self.now.eip size (view self.now.view.mem.now self.now.view.control) (log_at self.now.eip n) }
     {
         if size == 1 {
             return self.signed(n);

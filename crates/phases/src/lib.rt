@@ -6,8 +6,8 @@ ghost use Rattle.machine.specs.Run.{step};
 ghost use Rattle.phases.specs.Step.{micro32};
 ghost use Rattle.phases.specs.Planned.{PlanOk, left};
 
+use access::{Access, View};
 use encoding::Classes;
-use access::Access;
 use machine::{Core, Cpu, Reply};
 
 // What a step answers: the reply, and the record after it.
@@ -32,14 +32,17 @@ fn plan(c: Cpu, mem: &[u8], t: &Classes) -> Result<Planned, Reply>
     requires { length mem.now % 4096 ≡ 0 }
     ensures { PlanOk mem.now c result }
 {
-    let k = c.control;
+    let view = View {
+        mem,
+        control: c.control,
+    };
     let core = Core::from(c);
-    let i = decode::decode(mem, k, t, c.eip)?;
-    if !execute::permitted(i, c.eflags / 4096 % 4, k.ring) {
+    let i = decode::decode(&view, t, c.eip)?;
+    if !execute::permitted(i, c.eflags / 4096 % 4, c.control.ring) {
         return Err(Reply::Fault(13, 0, 0));
     }
-    let first = access::locate(mem, k, execute::first(i, c.regs))?;
-    let second = access::locate(mem, k, execute::second(i, c.regs))?;
+    let first = view.locate(execute::first(i, c.regs))?;
+    let second = view.locate(execute::second(i, c.regs))?;
     let e = execute::compute(i, core, first.value);
     let q = e.reply;
     if !machine::is_done(q) {
@@ -79,7 +82,11 @@ pub fn advance(c: Cpu, mem: &mut [u8], t: &Classes) -> Stepped
         Ok(p) => p,
         Err(q) => return Stepped { reply: q, cpu: c },
     };
-    let s = access::code_trail(mem, c.control, c.eip, p.length);
+    let view = View {
+        mem,
+        control: c.control,
+    };
+    let s = view.code_trail(c.eip, p.length);
     access::mark_trail(mem, s, false);
     leave(mem, p);
     Stepped {

@@ -1,5 +1,5 @@
 use Rattle.access.proofs.Laws.{nothing_held}
-use Rattle.access.proofs.locate.Goals as goal
+use Rattle.access.proofs.View.locate.Goals as goal
 
 pub returns-in-Nothing : goal.returns-in-Nothing
 returns-in-Nothing c = rw (c.in-Nothing.is, c.nowhere.ensures) (nothing_held _ _)
