@@ -13,8 +13,8 @@ ghost use Rattle.shortcut.specs.Shortcut.{Tidy};
 ghost use Rattle.hops.specs.Hops.{moves, keeps, saved, spotted, Holds, Reaches, Spared, Left, PagesOk, SwiftOk};
 ghost use Rattle.hops.specs.declared.Ending.TheVariants as ends;
 
-use encoding::Classes;
 use alu::brief::{Brief, Short};
+use encoding::Classes;
 use keptpages::Kept;
 use machine::Control;
 use outcome::Fast;

@@ -10,8 +10,8 @@ ghost use Rattle.blocks.specs.Blocks.{Known};
 ghost use Rattle.hops.specs.Hops.{PagesOk, current, RushOk};
 ghost use Rattle.swift.specs.Swift.{DashOk};
 
-use encoding::Classes;
 use alu::Status;
+use encoding::Classes;
 use hops::Rest;
 use keptpages::Kept;
 use machine::{Control, Core, Cpu, Flags, Registers};
