@@ -104,7 +104,7 @@ pub fn shift(i: Instruction, k: Core, count: u32, a: u32) -> Effect
 }
 
 // The register of a pair's upper half: EDX, or AH.
-// Stays: one line with a name that the definition has, as `four_or_one` in encoding.
+// Stays: one function for this and encoding's `four_or_one` would take the two numbers, and say less than the `if`.
 fn upper(wide: bool) -> u32
     ensures { result ≡ upper wide }
 {

@@ -111,7 +111,7 @@ pub enum Class {
 }
 
 // The class with this number in the table.
-// Stays: the table holds numbers (src/opcodes), and as TryFrom this would test each number that is read.
+// Stays: the table holds no other number (src/opcodes), so that the Err of a TryFrom would never come.
 fn numbered(n: u8) -> Class
     requires { n < 49 }
     ensures { result ≡ class_at n }
@@ -413,7 +413,7 @@ fn has_immediate(c: Class) -> bool
     )
 }
 
-// Stays: one line with a name that says what it chooses.
+// Stays: one function for this and arithmetic's `upper` would take the two numbers, and say less than the `if`.
 fn four_or_one(four: bool) -> u32
     ensures { result ≡ cond four 4 1 }
 {

@@ -1,5 +1,5 @@
 // The class of each opcode by its number: one-byte, then after 0F. specs/Encodings has the list that it agrees with.
-// Stays: a [Class; 512] was tried, and the proof didn't close: the check of `classes` stops at its step limit.
+// Stays: a [Class; 512] was tried, and the proof didn't close: the check of `Classes::new` stops at its step limit.
 pub const CLASSES: [u8; 512] = [
     4, 4, 5, 5, 6, 6, 0, 0, 4, 4, 5, 5, 6, 6, 0, 2, 4, 4, 5, 5, 6, 6, 0, 0, 4, 4, 5, 5, 6, 6, 0, 0,
     4, 4, 5, 5, 6, 6, 1, 0, 4, 4, 5, 5, 6, 6, 1, 0, 4, 4, 5, 5, 6, 6, 1, 0, 4, 4, 5, 5, 6, 6, 1, 0,

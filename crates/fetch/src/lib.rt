@@ -8,7 +8,6 @@ ghost use Rattle.fetch.specs.Fetch.{signed, fetch_signed, fetch_word, fetch_dwor
 ghost use Rattle.fetch.specs.Read.{log_at, FetchOk, got_of};
 
 use access::View;
-pub use alu::signed_byte as extend;
 use machine::Reply;
 use paging::{Linear, Physical};
 
@@ -26,6 +25,14 @@ pub struct Code<'a> {
 pub struct Fetched {
     pub value: u32,
     pub length: u32,
+}
+
+// A byte with its sign.
+pub fn extend(x: u32) -> u32
+    requires { x < 256 }
+    ensures { result ≡ signed x }
+{
+    alu::signed_byte(x)
 }
 
 fn joined(a: u32, b: u32, c: u32, d: u32) -> u32
@@ -54,7 +61,10 @@ impl<'a> Code<'a> {
         ensures { FetchOk self.now.view.mem.now self.now.view.control self.now.eip n result }
     {
         let l = Linear(self.eip.wrapping_add(n));
-        let t = self.view.translate(false, l)?;
+        let answer = self.view.translate(false, l);
+        let Ok(t) = answer else {
+            return Err(answer.unwrap_err());
+        };
         Ok(Fetched {
             value: paging::byte_at(self.view.mem, t.place.index()),
             length: n + 1,

@@ -8,7 +8,7 @@ ghost use Rattle.machine.specs.Replies.{is_done, numbered};
 use alu::Status;
 
 // What a step, a run or an audit answers. `numbered` in specs/Replies gives each its number.
-// Stays: the numbered answers, which C reads.
+// Stays: eleven answers with a number each are no Option and no Result.
 #[derive(Clone, Copy, PartialEq, Eq)]
 pub enum Reply {
     Done,

@@ -139,7 +139,7 @@ pub fn restack(e: &mut [u32], p: Fast)
         return;
     }
     if (p.access == 5) | (p.access == 6) {
-        cells::put(e, 4, std::num::wrapping_add_u32(p.at, 4));
+        cells::put(e, 4, p.at.wrapping_add(4));
     }
 }
 

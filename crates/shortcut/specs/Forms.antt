@@ -3,7 +3,7 @@
 use Rattle.std.specs.Prelude.{ℕ, ◌+◌, ◌/◌, ◌%◌, Bool, true, false, cond, ◌||◌, List, ◌==◌, nat_le}
 use Rattle.alu.specs.Arithmetic.{writes}
 use Rattle.encoding.specs.declared.Class.{Class}
-use Rattle.encoding.specs.declared.Class.TheVariants.{ArithmeticTo, ArithmeticFrom, ArithmeticGroup, TestTo, MoveTo, MoveFrom, MoveGroup}
+use Rattle.encoding.specs.declared.Class.TheVariants.{NotBuilt, Override, Escape, Undefined, ArithmeticTo, ArithmeticFrom, ArithmeticGroup, TestTo, MoveTo, MoveFrom, MoveGroup}
 use Rattle.machine.specs.Record.{Mem, at, wrap, register, read_at}
 use Rattle.machine.specs.Paging.{dword_at}
 use Rattle.fetch.specs.Fetch.{signed}
@@ -36,6 +36,10 @@ combines c = combines_to c || combines_from c
 
 -- the operation of such a class: ADD to CMP by the opcode, TEST, MOV
 abbrev pub operation_of : Class → ℕ → ℕ
+operation_of NotBuilt b = b / 8 % 8
+operation_of Override b = b / 8 % 8
+operation_of Escape b = b / 8 % 8
+operation_of Undefined b = b / 8 % 8
 operation_of ArithmeticTo b = b / 8 % 8
 operation_of ArithmeticFrom b = b / 8 % 8
 operation_of TestTo b = 8

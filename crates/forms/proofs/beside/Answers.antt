@@ -6,7 +6,7 @@ use native.Mathlib.Omega.{arith}
 use Rattle.forms.proofs.beside.Goals as goal
 
 pub returns-then-m-eq1 : goal.returns-then-m-eq1
-returns-then-m-eq1 c = (omega arith, near (c.args.mem.now) (c.args.i) (c.args.m) 1 _ c.requires.1 c.if-m-eq1.true c.if-n-eq4.false refl (c.signed_byte.ensures ∙ rw (c.byte.ensures.0) refl))
+returns-then-m-eq1 c = (omega arith, near (c.args.mem.now) (c.args.i) (c.args.m) 1 _ c.requires.1 c.if-m-eq1.true c.if-n-eq4.false refl (c.extend.ensures ∙ rw (c.byte.ensures.0) refl))
 
 pub returns-then-m-eq2 : goal.returns-then-m-eq2
 returns-then-m-eq2 c = (omega arith, near (c.args.mem.now) (c.args.i) (c.args.m) 2 _ c.requires.1 c.if-m-eq2.true c.if-n-eq4.false refl c.dword.ensures)

@@ -4,7 +4,7 @@ use mathlib.Core.Path.{refl, ◌∙◌}
 use Rattle.forms.proofs.on_register.Goals as goal
 
 pub returns-then-b-shifts : goal.returns-then-b-shifts
-returns-then-b-shifts c = read_places (c.args.mem.now) (c.args.i) (c.args.b) (c.args.m) (c.requires.1.0) (c.requires.1.1.0) (c.requires.1.1.1.0) _ c.if-b-shifts.true (search rules) (c.signed_byte.ensures ∙ rw (c.byte.ensures.0) refl)
+returns-then-b-shifts c = read_places (c.args.mem.now) (c.args.i) (c.args.b) (c.args.m) (c.requires.1.0) (c.requires.1.1.0) (c.requires.1.1.1.0) _ c.if-b-shifts.true (search rules) (c.extend.ensures ∙ rw (c.byte.ensures.0) refl)
 
 pub returns-then-b-shifts-2 : goal.returns-then-b-shifts-2
 returns-then-b-shifts-2 c = read_place (c.args.mem.now) (c.args.i) (c.args.b) (c.args.m) (c.requires.1.0) (c.requires.1.1.0) (c.requires.1.1.1.0) c.if-b-shifts-2.true

@@ -25,7 +25,7 @@ pub returns-in-PopRegister : goal.returns-in-PopRegister
 returns-in-PopRegister c = rw c.with_number-in-PopRegister.ensures (read_pop (c.args.mem.now) (c.args.i) (c.args.b) (c.args.m) (c.requires.1.0) (c.requires.1.1.0) _ (c.args.c) (c.requires.1.1.1.1.1) c.in-PopRegister.is refl)
 
 pub returns-in-JumpIf : goal.returns-in-JumpIf
-returns-in-JumpIf c = rw c.with_number-in-JumpIf.ensures (read_jump (c.args.mem.now) (c.args.i) (c.args.b) (c.args.m) (c.requires.1.0) (c.requires.1.1.0) _ (c.args.c) (c.requires.1.1.1.1.1) _ (search rules) c.in-JumpIf.is (c.requires.1.1.1.1.0) c.signed_byte.ensures refl)
+returns-in-JumpIf c = rw c.with_number-in-JumpIf.ensures (read_jump (c.args.mem.now) (c.args.i) (c.args.b) (c.args.m) (c.requires.1.0) (c.requires.1.1.0) _ (c.args.c) (c.requires.1.1.1.1.1) _ (search rules) c.in-JumpIf.is (c.requires.1.1.1.1.0) c.extend.ensures refl)
 
 pub returns-in-ReturnPlain : goal.returns-in-ReturnPlain
 returns-in-ReturnPlain c = rw c.with_number-in-ReturnPlain.ensures (read_return (c.args.mem.now) (c.args.i) (c.args.b) (c.args.m) (c.requires.1.0) (c.requires.1.1.0) _ (c.args.c) (c.requires.1.1.1.1.1) c.in-ReturnPlain.is refl)

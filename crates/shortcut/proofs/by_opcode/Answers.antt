@@ -15,7 +15,7 @@ pub returns-in-233 : goal.returns-in-233
 returns-in-233 c = λ s. taken_far (c.args.mem.now) (c.args.e.now) s (c.args.eip) (c.args.i) _ _ (c.requires.1.0) (c.requires.1.1.0) _ _ _ _ (c.in-233.is) (c.wrapping_add_u32-next-in-233.ensures.value) (c.dword-in-233.ensures) (c.wrapping_add_u32-in-233.ensures.value) (c.jump.ensures)
 
 pub returns-in-235 : goal.returns-in-235
-returns-in-235 c = λ s. taken_near (c.args.mem.now) (c.args.e.now) s (c.args.eip) (c.args.i) _ _ (c.requires.1.0) (c.requires.1.1.0) _ _ _ _ (c.in-235.is) (c.wrapping_add_u32-next-in-235.ensures.value) (c.signed_byte.ensures) (c.wrapping_add_u32-in-235.ensures.value) (c.jump-in-235.ensures)
+returns-in-235 c = λ s. taken_near (c.args.mem.now) (c.args.e.now) s (c.args.eip) (c.args.i) _ _ (c.requires.1.0) (c.requires.1.1.0) _ _ _ _ (c.in-235.is) (c.wrapping_add_u32-next-in-235.ensures.value) (c.extend.ensures) (c.wrapping_add_u32-in-235.ensures.value) (c.jump-in-235.ensures)
 
 pub returns-else-m : goal.returns-else-m
 returns-else-m c = λ s. not_taken (c.args.mem.now) (c.args.e.now) s (c.args.eip) (c.args.i) _ (c.none.ensures)

@@ -5,4 +5,4 @@ pub returns-then-long : goal.returns-then-long
 returns-then-long c = rw c.if-long.true c.dword.ensures
 
 pub returns : goal.returns
-returns c = rw c.if-long.false (c.signed_byte.ensures ∙ rw c.byte.ensures.0 refl)
+returns c = rw c.if-long.false (c.extend.ensures ∙ rw c.byte.ensures.0 refl)

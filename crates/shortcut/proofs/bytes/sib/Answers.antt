@@ -8,7 +8,7 @@ use Rattle.shortcut.proofs.bytes.sib.Goals as goal
 -- mod 0 with a base: no displacement
 
 pub returns-then-md-eq1 : goal.returns-then-md-eq1
-returns-then-md-eq1 c = sib_based _ c.args.e.now _ _ c.byte-s.result _ c.byte-s.ensures.0 1 _ c.if-md-eq1.true (has_base c.byte-s.result) (c.signed_byte.ensures ∙ rw c.byte.ensures.0 refl) c.indexed.ensures
+returns-then-md-eq1 c = sib_based _ c.args.e.now _ _ c.byte-s.result _ c.byte-s.ensures.0 1 _ c.if-md-eq1.true (has_base c.byte-s.result) (c.extend.ensures ∙ rw c.byte.ensures.0 refl) c.indexed.ensures
 
 pub returns-then-md-eq2 : goal.returns-then-md-eq2
 returns-then-md-eq2 c = sib_based _ c.args.e.now _ _ c.byte-s.result _ c.byte-s.ensures.0 2 _ c.if-md-eq2.true (has_base c.byte-s.result) c.dword.ensures c.indexed-then-md-eq2.ensures
