@@ -42,6 +42,7 @@ fn stray(mem: &[u8], c: Control) -> Option<u32>
 }
 
 // The table that a present entry names gets its flag, whoever may use it.
+#[tactic(auto, unfolding(crate::specs::Searched::with_table))]
 fn raise_table(held: &mut [bool], e: u32)
     ensures { held.new ≡ with_table held.old e }
 {
