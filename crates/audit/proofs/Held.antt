@@ -102,7 +102,7 @@ module _ (m : Mem) (c : Control) where
       none_names : (d : ℕ) → d < 1024 → names f (entry m (dir_frame c) d) ≡ false
       none_names d h = named f (dword_at m (slot (dir_frame c) d)) ∙ by d h _ refl
 
-  flags_all : (h : List Bool) → Sized m c → Flags m c 1024 h → Held m c h
+  pub flags_all : (h : List Bool) → Sized m c → Flags m c 1024 h → Held m c h
   unfolding holds_below holds_table
   flags_all h s k f = by (dec_lt f 4096)
     where
@@ -111,6 +111,3 @@ module _ (m : Mem) (c : Control) where
       by (no l) =
           let past : length h ≤ f = omega (arith, k.size) in
           get_or-eq_default h false past ∙ sym (far s f (omega arith))
-
-  pub ready : (h : List Bool) → Sized m c → Flags m c 1024 h → Sized m c × Held m c h
-  ready h s k = (s, flags_all h s k)

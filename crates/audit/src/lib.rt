@@ -9,6 +9,16 @@ ghost use Rattle.audit.specs.Searched.{found_of, with_table, Sized, Clear, Flags
 
 use machine::{Control, Cpu, Reply};
 
+// Where the search for an open page looks: the directory and every present table exist, and held flags their frames.
+#[derive(Clone, Copy)]
+struct Search<'a> {
+    mem: &'a [u8],
+    control: Control,
+    held: &'a [bool],
+    ghost sized: { Sized mem.now control },
+    ghost flagged: { Held mem.now control held.now },
+}
+
 // Does frame f exist in a memory of n bytes?
 fn in_memory(n: usize, f: u32) -> bool
     ensures { result ≡ in_memory n f }
@@ -32,6 +42,7 @@ fn stray(mem: &[u8], c: Control) -> Option<u32>
 }
 
 // The table that a present entry names gets its flag, whoever may use it.
+#[tactic(auto, unfolding(crate::specs::Searched::with_table))]
 fn raise_table(held: &mut [bool], e: u32)
     ensures { held.new ≡ with_table held.old e }
 {
@@ -51,40 +62,41 @@ fn raise_all(mem: &[u8], c: Control, held: &mut [bool])
     }
 }
 
-// Does page p open a frame that is held? All of P, R/W and U/S are set in e, the entry of the directory that names its table.
-fn opens_at(mem: &[u8], c: Control, held: &[bool], p: u32, e: u32) -> bool
-    requires sized { Sized mem.now c × (p < 1048576) }
-    requires held { Held mem.now c held.now × ((e ≡ dword_at mem.now (slot (dir_frame c) (p / 1024))) × (e % 8 ≡ 7)) }
-    ensures { result ≡ exposed mem.now c p }
-{
-    let x = paging::entry(mem, e / 4096, p % 1024);
-    (x % 8 == 7) & cells::get(held, x as usize / 4096, false)
-}
-
-// The lowest page so far that opens a held frame, where there is none before entry d of the directory.
-fn open_in(mem: &[u8], c: Control, held: &[bool], d: u32) -> Option<u32>
-    requires sized { Sized mem.now c × (d < 1024) }
-    requires held { Held mem.now c held.now × (first (exposed mem.now c) (d * 1024) ≡ none) }
-    ensures { found_of result ≡ first (exposed mem.now c) (d * 1024 + 1024) }
-{
-    let e = paging::entry(mem, c.cr3 / 4096, d);
-    if e % 8 != 7 {
-        return None;
+impl<'a> Search<'a> {
+    // Does page p open a frame that is held? All of P, R/W and U/S are set in e, the entry of the directory that names its table.
+    fn opens_at(&self, p: u32, e: u32) -> bool
+        requires page { p < 1048576 }
+        requires entry { (e ≡ dword_at self.now.mem.now (slot (dir_frame self.now.control) (p / 1024))) × (e % 8 ≡ 7) }
+        ensures { result ≡ exposed self.now.mem.now self.now.control p }
+    {
+        let x = paging::entry(self.mem, e / 4096, p % 1024);
+        (x % 8 == 7) & cells::get(self.held, x as usize / 4096, false)
     }
-    (d * 1024..d * 1024 + 1024).find(|p| opens_at(mem, c, held, *p, e))
-}
 
-// The lowest page at which the user may write a held frame.
-fn opening(mem: &[u8], c: Control, held: &[bool]) -> Option<u32>
-    requires { Sized mem.now c × Held mem.now c held.now }
-    ensures { found_of result ≡ first (exposed mem.now c) 1048576 }
-{
-    for d in 0..1024 {
-        if let Some(p) = open_in(mem, c, held, d) {
-            return Some(p);
+    // The lowest page so far that opens a held frame, where there is none before entry d of the directory.
+    fn open_in(&self, d: u32) -> Option<u32>
+        requires entry { d < 1024 }
+        requires before { first (exposed self.now.mem.now self.now.control) (d * 1024) ≡ none }
+        ensures { found_of result ≡ first (exposed self.now.mem.now self.now.control) (d * 1024 + 1024) }
+    {
+        let e = paging::entry(self.mem, self.control.cr3 / 4096, d);
+        if e % 8 != 7 {
+            return None;
         }
+        (d * 1024..d * 1024 + 1024).find(|p| self.opens_at(*p, e))
     }
-    None
+
+    // The lowest page at which the user may write a held frame.
+    fn opening(&self) -> Option<u32>
+        ensures { found_of result ≡ first (exposed self.now.mem.now self.now.control) 1048576 }
+    {
+        for d in 0..1024 {
+            if let Some(p) = self.open_in(d) {
+                return Some(p);
+            }
+        }
+        None
+    }
 }
 
 fn tables(mem: &[u8], c: Control) -> Reply
@@ -99,7 +111,12 @@ fn tables(mem: &[u8], c: Control) -> Reply
     }
     let mut held = [false; 4096];
     raise_all(mem, c, &mut held);
-    if let Some(p) = opening(mem, c, &held) {
+    let search = Search {
+        mem,
+        control: c,
+        held: &held,
+    };
+    if let Some(p) = search.opening() {
         return Reply::Exposed(p * 4096);
     }
     Reply::Safe

@@ -1,6 +1,6 @@
 use native.Mathlib.Omega.{arith}
 use Rattle.audit.proofs.First.{start, stays}
-use Rattle.audit.proofs.opening.Goals as goal
+use Rattle.audit.proofs.Search.opening.Goals as goal
 
 pub loop-d-init : goal.loop-d-init
 loop-d-init c = start _
