@@ -204,7 +204,8 @@ def point_8(commit):
 def main():
     point, commit = sys.argv[1], (sys.argv[2] if len(sys.argv) > 2 else None)
     found = list(globals()[f"point_{point}"](commit))
-    print(*found, sep="\n")
+    for place in found:
+        print(place)
     print(f"point {point}: {len(found)}")
 
 

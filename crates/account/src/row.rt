@@ -23,7 +23,7 @@ pub struct Row {
     pub after: Reply,
 }
 
-// Stays: Reply has no default to derive this from. It is what a list of rows has where no row is yet.
+// Stays: an answer of the machine has no default that means anything; this is what a list of rows has where no row is yet.
 impl Default for Row {
     fn default() -> Row {
         Row {

@@ -1,7 +1,7 @@
 // A list of edits as text, a line each: `PASS WAYPOINT lat|lon DELTA`, or `PASS jitter -1|1` for every position.
 use crate::Bad;
 use crate::number::number_of;
-use crate::words::{next_line, split_word};
+use crate::words::{line_number, next_line, split_word};
 
 // The last pass that an edit may name.
 pub const LAST_PASS: u32 = 63;
@@ -132,12 +132,10 @@ pub fn edit_at(s: &[u8], at: usize, waypoints: u32) -> Result<Option<Edit>, Slip
 // Reads every line, for a plan of so many waypoints, and answers the last pass that is named; or the first line that is wrong.
 pub fn check_edits(s: &[u8], waypoints: u32) -> Result<u32, Bad<Slip>> {
     let mut last: u32 = 0;
-    // Stays: the number of a line has 32 bits and wraps, where `enumerate` would count in 64.
-    let mut n: u32 = 1;
-    for line in s.split(|b| *b == b'\n') {
+    for (i, line) in s.split(|b| *b == b'\n').enumerate() {
+        let n = line_number(i);
         let edit = edit_in(line, waypoints).map_err(|what| Bad { line: n, what })?;
         last = last.max(edit.map_or(0, |e| e.pass));
-        n = n.wrapping_add(1);
     }
     Ok(last)
 }

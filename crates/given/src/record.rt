@@ -1,7 +1,7 @@
 // A record as text: a name and a hexadecimal value a line; what is not named is 0.
 use crate::Bad;
 use crate::number::hexadecimal_of;
-use crate::words::split_word;
+use crate::words::{line_number, split_word};
 use machine::{Control, Cpu, Registers};
 
 // What is wrong with a line.
@@ -89,11 +89,9 @@ fn cpu(values: Values) -> Cpu {
 // The record, or the first line that is wrong.
 pub fn record_of(s: &[u8]) -> Result<Cpu, Bad<Flaw>> {
     let mut values: Values = [None; 14];
-    // Stays: the number of a line has 32 bits and wraps, where `enumerate` would count in 64.
-    let mut n: u32 = 1;
-    for line in s.split(|b| *b == b'\n') {
+    for (i, line) in s.split(|b| *b == b'\n').enumerate() {
+        let n = line_number(i);
         take_line(line, &mut values).map_err(|what| Bad { line: n, what })?;
-        n = n.wrapping_add(1);
     }
     Ok(cpu(values))
 }

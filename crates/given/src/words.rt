@@ -1,5 +1,5 @@
 // Lines and words of a text. A word ends at a blank, at the line's end or at a comment.
-ghost use Rattle.std.specs.Prelude.{◌<◌, ◌≤◌, length};
+ghost use Rattle.std.specs.Prelude.{◌≡◌, ◌+◌, ◌%◌, ◌<◌, ◌≤◌, length};
 
 fn is_blank(b: u8) -> bool {
     matches!(b, b' ' | b'\t' | b'\r')
@@ -21,6 +21,13 @@ fn past<F: Fn(u8) -> bool>(s: &[u8], over: F) -> usize
 pub fn split_word(line: &[u8]) -> (&[u8], &[u8]) {
     let (_, rest) = line.split_at(past(line, is_blank));
     rest.split_at(past(rest, is_of_word))
+}
+
+// The number of the line behind i others, in 32 bits.
+pub fn line_number(i: usize) -> u32
+    ensures { result ≡ (i + 1) % 4294967296 }
+{
+    ((i % 4294967296) as u32).wrapping_add(1)
 }
 
 // Where the line after the one at `at` begins.
