@@ -2,3 +2,4 @@ mod Numbers
 pub mod Keys
 pub mod Tables
 mod Building
+pub mod Fresh
