@@ -1,5 +1,5 @@
 mod Numbers
 pub mod Keys
-pub mod Tables
+mod Tables
 mod Building
-pub mod Fresh
+mod Fresh
