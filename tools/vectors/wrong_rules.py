@@ -139,7 +139,7 @@ RULES = [
     (Z, "block: a dword over a page's end is taken as one page's", "    if 4092 < l % 4096 {", "    if 4095 < l % 4096 {"),
     (J, "block: POP and RET leave ESP too high", "top.wrapping_add(4)", "top.wrapping_add(8)"),
     (J, "block: CALL stores where it goes", "match crate::ends::store(mem, c, h, i, next) {", "match crate::ends::store(mem, c, h, i, next.wrapping_add(f.number)) {"),
-    (Y, "block: the budget is not kept within a block", "    let size = least((g[s + 8] % 32) as u32, limit);", "    let size = least((g[s + 8] % 32) as u32, 23);"),
+    (Y, "block: the budget is not kept within a block", "    let size = least(g.size(s), limit);", "    let size = least(g.size(s), 23);"),
 ]
 
 

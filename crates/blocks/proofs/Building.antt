@@ -25,9 +25,9 @@ pub record Built (m : Mem) (i s : ℕ) (g : List ℕ) (j off : ℕ) : Type 0 whe
   pub bytes : offset g s j ≡ off
   pub long : length g ≡ 4096
 
-pub built_none : (m : Mem) (i s : ℕ) (g : List ℕ) → length g ≡ 4096 → (Known g) × ((Written m i g s 8) × (get_or g (s + 8) 0 ≡ 0)) → Built m i s g 0 0
+pub built_none : (m : Mem) (i s : ℕ) (g : List ℕ) → length g ≡ 4096 → Known g → (Written m i g s 8) × (get_or g (s + 8) 0 ≡ 0) → Built m i s g 0 0
 unfolding offset
-built_none m i s g n (k, (key, z)) =
+built_none m i s g n k (key, z) =
     record { known = k; written = key; size = rw z; short = λ _. omega (arith, z); bytes = refl; long = n }
 
 -- the count that is stored
@@ -66,5 +66,5 @@ built_on m i s g j off x c f b h z l o r e ec =
     }
 
 -- the block as it is
-pub built_done : {m : Mem} {i s : ℕ} {g : List ℕ} {j off : ℕ} → Built m i s g j off → (Known g) × (Keyed m i g s)
-built_done {m} {i} {s} {g} b = (b.known, keyed_whole m i g s b.written)
+pub built_done : {m : Mem} {i s : ℕ} {g : List ℕ} {j off : ℕ} → Built m i s g j off → Keyed m i g s
+built_done {m} {i} {s} {g} b = keyed_whole m i g s b.written

@@ -1,4 +1,5 @@
 mod Numbers
 pub mod Keys
-pub mod Tables
+mod Tables
 mod Building
+mod Fresh

@@ -2,12 +2,13 @@
 // sixty-four where a form asks for more. Thirty-two numbers for each block: eight with the bytes, how many forms there are, and the forms.
 #![tactic(auto)]
 
-ghost use Rattle.std.specs.Prelude.{◌≡◌, true, cond, ◌+◌, ◌%◌, ◌<◌, ◌≤◌, length, get_or, leb};
+ghost use Rattle.std.specs.Prelude.{◌≡◌, true, cond, ◌+◌, ◌%◌, ◌<◌, ◌≤◌, ℕ, List, length, get_or, replicate, leb};
 ghost use Rattle.forms.specs.Forms.{Small};
-ghost use Rattle.blocks.specs.Blocks.{Digits, unpacked, Written, Keyed, Known, last};
+ghost use Rattle.blocks.specs.Blocks.{Digits, unpacked, size_in, form_in, Written, Keyed, BlockOk, Known, last};
 
 use encoding::Classes;
 use forms::Form;
+use std::marker::Model;
 
 // The eight bytes at i in one number.
 fn word(mem: &[u8], i: usize) -> u64
@@ -38,7 +39,7 @@ fn pack(f: Form) -> u64
 }
 
 // A form of the table.
-pub fn unpack(k: u64) -> Form
+fn unpack(k: u64) -> Form
     ensures { result ≡ unpacked k }
 {
     Form {
@@ -72,19 +73,6 @@ fn same(mem: &[u8], g: &[u64; 4096], s: usize, i: usize) -> bool
     four(mem, g, s + 4, i + 32)
 }
 
-// A block without forms, with the bytes at i.
-fn begin(mem: &[u8], g: &mut [u64; 4096], s: usize, i: usize)
-    requires { (i + 64 ≤ length mem.now) × ((s + 32 ≤ 4096) × ((s % 32 ≡ 0) × (Known g.old))) }
-    ensures { (Known g.new) × ((Written mem.now i g.new s 8) × (get_or g.new (s + 8) 0 ≡ 0)) }
-{
-    // As a slice, for the proof: there are 4096.
-    let whole = &g[..];
-    g[s + 8] = 0;
-    for k in 0..8 {
-        g[s + k] = word(mem, i + 8 * k);
-    }
-}
-
 // How many forms there are once the one at off is the j-th, 32 more where it asks for bytes beyond the first thirty-two.
 fn count(j: usize, off: usize) -> u64
     requires { j < 23 }
@@ -107,40 +95,88 @@ fn is_last(f: Form) -> bool
     (68 <= f.kind) & (f.kind <= 70)
 }
 
-// Reads the block at i anew, up to its last form or what is no form.
-fn build(mem: &[u8], t: &Classes, g: &mut [u64; 4096], s: usize, i: usize)
-    requires { (i + 64 ≤ length mem.now) × ((s + 32 ≤ 4096) × ((s % 32 ≡ 0) × (Known g.old))) }
-    ensures { (Known g.new) × (Keyed mem.now i g.new s) }
-{
-    begin(mem, g, s, i);
-    // As a slice, for the proof: there are 4096.
-    let whole = &g[..];
-    let mut off: usize = 0;
-    for j in 0..23 {
-        if 48 < off {
-            return;
-        }
-        let Some(f) = forms::read(mem, t, i + off) else {
-            return;
-        };
-        g[s + 9 + j] = pack(f);
-        g[s + 8] = count(j, off);
-        off += f.length as usize;
-        if is_last(f) {
-            return;
-        }
-    }
+// The table: every block of it is one.
+#[derive(Drop)]
+pub struct Blocks {
+    numbers: [u64; 4096],
 }
 
-// The place of the block that begins at EIP; its bytes are at i.
-pub fn find(mem: &[u8], t: &Classes, g: &mut [u64; 4096], eip: u32, i: usize) -> usize
-    requires { (i + 64 ≤ length mem.now) × (Known g.old) }
-    ensures { (result + 32 ≤ 4096) × ((result % 32 ≡ 0) × ((Known g.new) × (Keyed mem.now i g.new result))) }
-{
-    let s = (eip % 128) as usize * 32;
-    if same(mem, g, s, i) {
-        return s;
+impl Model for Blocks {
+    ghost Value = { List ℕ };
+
+    ghost view = { λ b. b.numbers };
+
+    ghost invariant = { λ b. Known b.numbers };
+}
+
+impl Blocks {
+    // No block has a form yet.
+    pub fn new() -> Blocks
+        ensures { result ≡ replicate 4096 0 }
+    {
+        Blocks { numbers: [0; 4096] }
     }
-    build(mem, t, g, s, i);
-    s
+
+    // How many forms the block at place s has.
+    pub fn size(&self, s: usize) -> u32
+        requires { (s + 32 ≤ 4096) × (s % 32 ≡ 0) }
+        ensures { (result ≡ size_in self.now s) × (BlockOk self.now s) }
+    {
+        (self.numbers[s + 8] % 32) as u32
+    }
+
+    // The j-th form of the block at place s.
+    pub fn form(&self, s: usize, j: usize) -> Form
+        requires { s + 9 + j < 4096 }
+        ensures { result ≡ form_in self.now s j }
+    {
+        unpack(self.numbers[s + 9 + j])
+    }
+
+    // A block without forms, with the bytes at i.
+    fn begin(&mut self, mem: &[u8], s: usize, i: usize)
+        requires { (i + 64 ≤ length mem.now) × ((s + 32 ≤ 4096) × (s % 32 ≡ 0)) }
+        ensures { (Written mem.now i self.new s 8) × (get_or self.new (s + 8) 0 ≡ 0) }
+    {
+        self.numbers[s + 8] = 0;
+        for k in 0..8 {
+            self.numbers[s + k] = word(mem, i + 8 * k);
+        }
+    }
+
+    // Reads the block at i anew, up to its last form or what is no form.
+    fn build(&mut self, mem: &[u8], t: &Classes, s: usize, i: usize)
+        requires { (i + 64 ≤ length mem.now) × ((s + 32 ≤ 4096) × (s % 32 ≡ 0)) }
+        ensures { Keyed mem.now i self.new s }
+    {
+        self.begin(mem, s, i);
+        let mut off: usize = 0;
+        for j in 0..23 {
+            if 48 < off {
+                return;
+            }
+            let Some(f) = forms::read(mem, t, i + off) else {
+                return;
+            };
+            self.numbers[s + 9 + j] = pack(f);
+            self.numbers[s + 8] = count(j, off);
+            off += f.length as usize;
+            if is_last(f) {
+                return;
+            }
+        }
+    }
+
+    // The place of the block that begins at EIP; its bytes are at i.
+    pub fn find(&mut self, mem: &[u8], t: &Classes, eip: u32, i: usize) -> usize
+        requires { i + 64 ≤ length mem.now }
+        ensures { (result + 32 ≤ 4096) × ((result % 32 ≡ 0) × (Keyed mem.now i self.new result)) }
+    {
+        let s = (eip % 128) as usize * 32;
+        if same(mem, &self.numbers, s, i) {
+            return s;
+        }
+        self.build(mem, t, s, i);
+        s
+    }
 }

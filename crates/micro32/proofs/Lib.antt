@@ -1,2 +1,1 @@
 mod Runs
-mod Fresh

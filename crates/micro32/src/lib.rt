@@ -6,11 +6,11 @@ ghost use Rattle.machine.specs.Replies.{numbered};
 ghost use Rattle.machine.specs.Audit.{audit};
 ghost use Rattle.machine.specs.Record.{sound};
 ghost use Rattle.machine.specs.Run.{step, run};
-ghost use Rattle.blocks.specs.Blocks.{Known};
 ghost use Rattle.phases.specs.Step.{micro32};
 ghost use Rattle.micro32.specs.Told.{telling, told, run_telling, run_told};
 ghost use Rattle.micro32.specs.Boundary.{answer_of, ran_answered};
 
+use blocks::Blocks;
 use encoding::Classes;
 use machine::{Cpu, Reply};
 use phases::Stepped;
@@ -50,8 +50,8 @@ pub fn step(c: Cpu, mem: &mut [u8]) -> Stepped
 }
 
 // Steps until the budget is used or a reply isn't Done: quick ones as long as there are, then a complete one. The blocks that were read are kept in g.
-fn run_on(c: Cpu, mem: &mut [u8], t: &Classes, g: &mut [u64; 4096], budget: u32) -> Ran
-    requires { (Known g.old) × (sound mem.old c ≡ true) }
+fn run_on(c: Cpu, mem: &mut [u8], t: &Classes, g: &mut Blocks, budget: u32) -> Ran
+    requires { sound mem.old c ≡ true }
     ensures { run_telling result.count result.reply result.cpu mem.new ≡ run_told (run micro32 budget mem.old c) }
 {
     let mut n: u32 = 0;
@@ -98,7 +98,7 @@ pub fn run(c: Cpu, mem: &mut [u8], budget: u32) -> Ran
         };
     }
     let t = Classes::new();
-    let mut g: [u64; 4096] = [0; 4096];
+    let mut g = Blocks::new();
     run_on(c, mem, &t, &mut g, budget)
 }
 

@@ -13,7 +13,7 @@ use Rattle.machine.specs.declared.Control.{Control}
 use Rattle.machine.specs.Record.{Mem}
 use Rattle.machine.specs.Run.{End, steps}
 use Rattle.keptpages.specs.declared.Kept.{Kept}
-use Rattle.blocks.specs.Blocks.{Keyed, Known}
+use Rattle.blocks.specs.Blocks.{Keyed}
 use Rattle.hops.specs.declared.Ending.TheVariants as ends
 use Rattle.hops.specs.declared.Rest.{Rest}
 use Rattle.phases.specs.Step.{micro32}
@@ -64,8 +64,8 @@ module _ (m₀ : Mem) (e₀ : List ℕ) (c : Control) (r₀ : Rest) (h : Kept) (
         omega (arith, w, q.1)
 
     pub ready : length m₀ % 4096 ≡ 0 → h.base % 4096 ≡ 0 → (eqb (r.eip / 4096) h.page && leb (r.eip % 4096) 4032) ≡ true → r.eip < 4294967296
-        → (g : List ℕ) (s i : ℕ) → i ≡ h.base + r.eip % 4096 → s + 32 ≤ 4096 → s % 32 ≡ 0 → Known g → Keyed m i g s → Before m c h d g r s
-    ready size even t small g s i ei within whole known keyed =
+        → (g : List ℕ) (s i : ℕ) → i ≡ h.base + r.eip % 4096 → s + 32 ≤ 4096 → s % 32 ≡ 0 → Keyed m i g s → Before m c h d g r s
+    ready size even t small g s i ei within whole keyed =
         let q = split_test (r.eip / 4096) h.page (r.eip % 4096) 4032 t in
         record {
           stands = record { size = ap (λ (x : ℕ). x % 4096) z.same ∙ size; pages = z.pages; page = q.0; room = omega (arith, q.1); small = small };
@@ -73,7 +73,6 @@ module _ (m₀ : Mem) (e₀ : List ℕ) (c : Control) (r₀ : Rest) (h : Kept) (
           wide = q.1;
           within = within;
           whole = whole;
-          known = known;
           keyed = rw ei at keyed;
         }
 

@@ -12,7 +12,7 @@ use Rattle.keptpages.specs.declared.Kept.{Kept}
 use Rattle.keptpages.specs.Quiet.{Agree}
 use Rattle.forms.specs.declared.Form.{Form}
 use Rattle.forms.specs.Forms.{Small}
-use Rattle.blocks.specs.Blocks.{unpacked, size_in, form_in, offset, Keyed}
+use Rattle.blocks.specs.Blocks.{unpacked, size_in, form_in, offset, Keyed, BlockOk}
 use Rattle.blocks.proofs.Keys.{asked_most}
 use Rattle.hops.specs.declared.Ending.{Ending}
 use Rattle.hops.specs.declared.Ending.TheVariants as ends
@@ -26,10 +26,6 @@ use Rattle.sprints.specs.Sprints.{Before, TracedOk}
 -- a form of the table has room in it
 unpacked_small : (k : ℕ) → (unpacked k).number < 4294967296 → Small (unpacked k)
 unpacked_small k h = record { kind = omega arith; length = omega arith; a = omega arith; b = omega arith; number = h }
-
--- a block has few forms
-pub few_here : (m : Mem) (c : Control) (h : Kept) (d g : List ℕ) (r : Rest) (s : ℕ) → Before m c h d g r s → (size_in g s ≤ 23) × (s + 32 ≤ 4096)
-few_here m c h d g r s b = ((b.known s b.whole (omega (arith, b.within))).few, b.within)
 
 -- what is not done leaves the pages that are kept
 stuck_keeps : (a : Ending) → moves a ≡ false → keeps a ≡ true
@@ -53,14 +49,14 @@ keyed_on m m' i b g s even low high same k n small l few =
     let inside : (i + 8 * n + l) / 4096 ≡ b / 4096 = omega arith in
     same (i + 8 * n + l) inside ∙ k n small l few
 
-module _ (m₀ : Mem) (e₀ : List ℕ) (c : Control) (r₀ : Rest) (h : Kept) (d g : List ℕ) (s : ℕ) (at_first : Before m₀ c h d g r₀ s) where
+module _ (m₀ : Mem) (e₀ : List ℕ) (c : Control) (r₀ : Rest) (h : Kept) (d g : List ℕ) (s : ℕ) (at_first : Before m₀ c h d g r₀ s) (block : BlockOk g s) where
   pub begun : Along m₀ e₀ c r₀ h d g s m₀ e₀ 0 r₀
   unfolding offset
   begun = record { rushed = rush_begun m₀ e₀ c r₀; same = refl; pages = at_first.stands.pages; eip = omega arith; keyed = at_first.keyed }
 
   -- form j begins among the block's bytes
   near : (j : ℕ) → j < size_in g s → offset g s j ≤ 48
-  near j l = omega (arith, asked_most g s, (at_first.known s at_first.whole (omega (arith, at_first.within))).room j l)
+  near j l = omega (arith, asked_most g s, block.room j l)
 
   module _ (m : Mem) (e : List ℕ) (j : ℕ) (r : Rest) (along : Along m₀ e₀ c r₀ h d g s m e j r) where
     -- the run stands at form j
@@ -88,23 +84,21 @@ module _ (m₀ : Mem) (e₀ : List ℕ) (c : Control) (r₀ : Rest) (h : Kept) (
         small_on : (x y o : ℕ) → o ≤ 48 → x % 4096 ≤ 4032 → x < 4294967296 → y ≡ x + o → y < 4294967296
         small_on x y o a b z q = omega arith
 
-    pub here : (k : ℕ) → k ≡ get_or g (s + 9 + j) 0 → (f : Form) → f ≡ unpacked k → f.number < 4294967296 → j < size_in g s → Here m h r f
-    here k ek f ef small l =
-        let b = at_first.known s at_first.whole (omega (arith, at_first.within)) in
+    pub here : (f : Form) → f ≡ form_in g s j → f.number < 4294967296 → j < size_in g s → Here m h r f
+    here f ef small l =
         let p : h.base + r₀.eip % 4096 + offset g s j ≡ h.base + r.eip % 4096 = place _ _ _ _ (near j l) at_first.wide along.eip in
-        let q : f ≡ form_in g s j = ef ∙ ap unpacked ek in
-        (rw (← p, q) (b.forms m (h.base + r₀.eip % 4096) along.keyed j l), rw ef (unpacked_small k (rw ef at small)))
+        (rw (← p, ef) (block.forms m (h.base + r₀.eip % 4096) along.keyed j l), rw ef (unpacked_small (get_or g (s + 9 + j) 0) (rw ef at small)))
       where
         place : (b x y o : ℕ) → o ≤ 48 → x % 4096 ≤ 4032 → y ≡ x + o → b + x % 4096 + o ≡ b + y % 4096
         place b x y o l w q = omega arith
 
     module _ (f : Form) (m' : Mem) (e' : List ℕ) (w : Swift) (ended : EndedOk m e c r h d f m' e' w) (same_size : length m' ≡ length m) where
       -- done, and the next form follows
-      pub follows : (k : ℕ) → k ≡ get_or g (s + 9 + j) 0 → f ≡ unpacked k → j < size_in g s → w.ending ≡ ends.Follows → Along m₀ e₀ c r₀ h d g s m' e' (j + 1) w.rest
+      pub follows : f ≡ form_in g s j → j < size_in g s → w.ending ≡ ends.Follows → Along m₀ e₀ c r₀ h d g s m' e' (j + 1) w.rest
       unfolding offset
-      follows k ek ef l z =
+      follows ef l z =
           let n = ended.follows z in
-          let q : f.length ≡ (form_in g s j).length = ap (λ (x : Form). x.length) (ef ∙ ap unpacked ek) in
+          let q : f.length ≡ (form_in g s j).length = ap (λ (x : Form). x.length) ef in
           let v = at_first.stands.small in
           record {
             rushed = rush_on m₀ e₀ c r₀ j m e r along.rushed h m' e' d w ended.swift (rw z);

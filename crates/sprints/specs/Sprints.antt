@@ -4,7 +4,7 @@ use Rattle.std.specs.Prelude.{ℕ, ◌+◌, ◌%◌, ◌≤◌, ◌≡◌, true,
 use Rattle.machine.specs.declared.Control.{Control}
 use Rattle.machine.specs.Record.{Mem}
 use Rattle.keptpages.specs.declared.Kept.{Kept}
-use Rattle.blocks.specs.Blocks.{Keyed, Known}
+use Rattle.blocks.specs.Blocks.{Keyed}
 use Rattle.hops.specs.declared.Rest.{Rest}
 use Rattle.hops.specs.Hops.{keeps, PagesOk, RushOk}
 use Rattle.strides.specs.Strides.{Stands}
@@ -17,7 +17,6 @@ pub record Before (m : Mem) (c : Control) (h : Kept) (d g : List ℕ) (r : Rest)
   pub wide : r.eip % 4096 ≤ 4032
   pub within : s + 32 ≤ 4096
   pub whole : s % 32 ≡ 0
-  pub known : Known g
   pub keyed : Keyed m (h.base + r.eip % 4096) g s
 
 -- that many quick steps were made; and the pages that are kept stay, if the last step leaves them

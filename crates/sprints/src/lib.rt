@@ -2,11 +2,11 @@
 #![tactic(auto)]
 
 ghost use Rattle.std.specs.Prelude.{◌≡◌, true, cond, ◌%◌, ◌≤◌, length, ltb};
-ghost use Rattle.blocks.specs.Blocks.{Known};
 ghost use Rattle.hops.specs.Hops.{PagesOk};
 ghost use Rattle.hops.specs.declared.Ending.TheVariants as ends;
 ghost use Rattle.sprints.specs.Sprints.{Before, TracedOk};
 
+use blocks::Blocks;
 use encoding::Classes;
 use hops::{Ending, Rest};
 use keptpages::Kept;
@@ -41,7 +41,7 @@ fn trace(
     mem: &mut [u8],
     e: &mut [u32; 8],
     d: &[u64; 32],
-    g: &[u64; 4096],
+    g: &Blocks,
     c: Control,
     from: Rest,
     h: Kept,
@@ -51,10 +51,10 @@ fn trace(
     requires { Before mem.old c h d.now g.now from s }
     ensures { (result.count ≤ limit) × (TracedOk mem.old e.old c from h d.now mem.new e.new result) }
 {
-    let size = least((g[s + 8] % 32) as u32, limit);
+    let size = least(g.size(s), limit);
     let mut r = from;
     for j in 0..size {
-        let f = blocks::unpack(g[s + 9 + j as usize]);
+        let f = g.form(s, j as usize);
         let w = strides::carry_out(mem, e, d, c, r, h, f);
         let next = w.rest;
         r = next;
@@ -86,14 +86,14 @@ pub fn sprint(
     t: &Classes,
     e: &mut [u32; 8],
     d: &[u64; 32],
-    g: &mut [u64; 4096],
+    g: &mut Blocks,
     c: Control,
     from: Rest,
     h: Kept,
     limit: u32,
 ) -> Traced
-    requires { (length mem.old % 4096 ≡ 0) × ((PagesOk mem.old c h d.now) × (Known g.old)) }
-    ensures { (result.count ≤ limit) × ((TracedOk mem.old e.old c from h d.now mem.new e.new result) × (Known g.new)) }
+    requires { (length mem.old % 4096 ≡ 0) × (PagesOk mem.old c h d.now) }
+    ensures { (result.count ≤ limit) × (TracedOk mem.old e.old c from h d.now mem.new e.new result) }
 {
     let mut n: u32 = 0;
     let mut r = from;
@@ -114,7 +114,7 @@ pub fn sprint(
             };
         }
         let i = h.base as usize + (r.eip % 4096) as usize;
-        let s = blocks::find(mem, t, g, r.eip, i);
+        let s = g.find(mem, t, r.eip, i);
         let w = trace(mem, e, d, g, c, r, h, s, limit - n);
         n += w.count;
         let next = w.rest;

@@ -6,11 +6,11 @@ ghost use Rattle.std.specs.Prelude.{◌≡◌, true, ◌/◌, ◌%◌, ◌≤◌
 ghost use Rattle.alu.specs.Brief.{status_in, tellable};
 ghost use Rattle.machine.specs.Record.{flags_in};
 ghost use Rattle.keptpages.specs.Quiet.{HeldOk};
-ghost use Rattle.blocks.specs.Blocks.{Known};
 ghost use Rattle.hops.specs.Hops.{PagesOk, current, RushOk};
 ghost use Rattle.swift.specs.Swift.{DashOk};
 
 use alu::Status;
+use blocks::Blocks;
 use encoding::Classes;
 use hops::Rest;
 use keptpages::Kept;
@@ -67,13 +67,13 @@ fn rush(
     t: &Classes,
     e: &mut [u32; 8],
     d: &mut [u64; 32],
-    g: &mut [u64; 4096],
+    g: &mut Blocks,
     c: Control,
     from: Rest,
     limit: u32,
 ) -> Rushed
-    requires { (length mem.old % 4096 ≡ 0) × (Known g.old) }
-    ensures { (result.count ≤ limit) × ((RushOk mem.old e.old c from result.count mem.new e.new result.rest) × (Known g.new)) }
+    requires { length mem.old % 4096 ≡ 0 }
+    ensures { (result.count ≤ limit) × (RushOk mem.old e.old c from result.count mem.new e.new result.rest) }
 {
     let mut n: u32 = 0;
     let mut r = from;
@@ -141,16 +141,9 @@ fn joined(c: Cpu, e: [u32; 8], r: Rest) -> Cpu
 }
 
 // Quick steps from a record on whose flags some dword shows.
-fn dash_on(
-    c: Cpu,
-    mem: &mut [u8],
-    t: &Classes,
-    g: &mut [u64; 4096],
-    s: Status,
-    limit: u32,
-) -> Dashed
-    requires { (length mem.old % 4096 ≡ 0) × ((Known g.old) × ((tellable s ≡ true) × (s ≡ (flags_in c.eflags).status))) }
-    ensures { (result.count ≤ limit) × ((DashOk mem.old c result.count mem.new result.cpu) × (Known g.new)) }
+fn dash_on(c: Cpu, mem: &mut [u8], t: &Classes, g: &mut Blocks, s: Status, limit: u32) -> Dashed
+    requires { (length mem.old % 4096 ≡ 0) × ((tellable s ≡ true) × (s ≡ (flags_in c.eflags).status)) }
+    ensures { (result.count ≤ limit) × (DashOk mem.old c result.count mem.new result.cpu) }
 {
     let k = c.control;
     let file = c.regs;
@@ -167,9 +160,9 @@ fn dash_on(
 }
 
 // Quick steps from a record on, at most so many.
-pub fn dash(c: Cpu, mem: &mut [u8], t: &Classes, g: &mut [u64; 4096], limit: u32) -> Dashed
-    requires { (length mem.old % 4096 ≡ 0) × (Known g.old) }
-    ensures { (result.count ≤ limit) × ((DashOk mem.old c result.count mem.new result.cpu) × (Known g.new)) }
+pub fn dash(c: Cpu, mem: &mut [u8], t: &Classes, g: &mut Blocks, limit: u32) -> Dashed
+    requires { length mem.old % 4096 ≡ 0 }
+    ensures { (result.count ≤ limit) × (DashOk mem.old c result.count mem.new result.cpu) }
 {
     let u = Flags::from(c.eflags);
     let s = u.status;

@@ -1,5 +1,0 @@
-use Rattle.blocks.proofs.Tables.{Begun}
-use Rattle.blocks.proofs.begin.Given as goal
-
-abbrev pub invariant-loop-k : goal.invariant-loop-k
-invariant-loop-k l = Begun l.mem l.i l.s l.g l.k
