@@ -15,9 +15,9 @@ Q, H, O, F, T, W = "keptpages", "keptpages/held", "outcome", "shortcut/bytes", "
 I, K, L, C, Z, J, V, Y = "forms", "blocks", "strides", "strides/plain", "strides/ends", "strides/memory", "swift", "sprints"  # and its blocks'
 # where it stands, the wrong rule in words, the text of the rule, the wrong text
 RULES = [
-    (B, "SBB's borrow is folded into the subtrahend", "let s = u64::from(y) + u64::from(c);", "let s = (u64::from(y) + u64::from(c)) % W::VALUES;"),
-    (B, "the carries of a difference without the borrow", "< s),\n        into: W::carries(x ^ y ^ r),", "< s),\n        into: W::carries(W::low(x ^ y ^ std::num::wrapping_add_u32(r, u32::from(c))).number()),"),
-    (B, "the carries of a sum without the carry", "as u32,\n        into: W::carries(x ^ y ^ r),", "as u32,\n        into: W::carries(W::low(x ^ y ^ std::num::wrapping_sub_u32(r, u32::from(c))).number()),"),
+    (B, "SBB's borrow is folded into the subtrahend", "let s = u64::from(y) + u64::from(c);", "let s = (u64::from(y) + u64::from(c)) % 0x1_0000_0000;"),
+    (B, "the carries of a difference without the borrow", "< s),\n        into: W::carries(x ^ y ^ r),", "< s),\n        into: if W::VALUES == 256 { W::carries(x ^ y ^ r) } else { x ^ y ^ std::num::wrapping_add_u32(r, u32::from(c)) },"),
+    (B, "the carries of a sum without the carry", "as u32,\n        into: W::carries(x ^ y ^ r),", "as u32,\n        into: if W::VALUES == 256 { W::carries(x ^ y ^ r) } else { x ^ y ^ std::num::wrapping_sub_u32(r, u32::from(c)) },"),
     (B, "OF of a sum of dwords is CF", "as u32,\n        into: W::carries(x ^ y ^ r),", "as u32,\n        into: if W::VALUES == 256 { W::carries(x ^ y ^ r) } else { W::carries(x ^ y ^ r) % 0x8000_0000 },"),
     (B, "OF of a difference of dwords is CF", "< s),\n        into: W::carries(x ^ y ^ r),", "< s),\n        into: if W::VALUES == 256 { W::carries(x ^ y ^ r) } else { W::carries(x ^ y ^ r) % 0x8000_0000 },"),
     (B, "OF of a sum of bytes is CF", "as u32,\n        into: W::carries(x ^ y ^ r),", "as u32,\n        into: if W::VALUES == 256 { W::carries(x ^ y ^ r) % 0x8000_0000 } else { W::carries(x ^ y ^ r) },"),
@@ -43,7 +43,7 @@ RULES = [
     (S, "OF changed by every shift", "let of = if first { one } else { overflow(f) };", "let of = one;"),
     (S, "OF kept by a shift of 1", "let of = if first { one } else { overflow(f) };", "let of = overflow(f);"),
     (S, "CF kept by a shift", "alu::brief::beside(last, ", "alu::brief::beside(alu::brief::carry(f), "),
-    (S, "CF of SHL from the first place", "let last = is_negative::<W>(p);", "let last = is_negative::<W>(x);"),
+    (S, "CF of SHL from the first place", "let last = is_negative::<W>(p);", "let last = is_negative::<W>(if W::VALUES == 256 { x } else { p });"),
     (S, "OF of SHR of a byte is 0", "p % 2 == 1, is_negative::<W>(x))", "p % 2 == 1, (W::VALUES != 256) & is_negative::<W>(x))"),
     (S, "SAR of a byte brings in zeros", "let negative = is_negative::<W>(x);", "let negative = (W::VALUES != 256) & is_negative::<W>(x);"),
     (P, "IDIV refuses the most negative quotient", "if negative { m <= top } else { m < top }", "m < top"),
@@ -66,7 +66,7 @@ RULES = [
     (N, "sixteen bytes are allowed", "if 15 <= n {", "if 16 <= n {"),
     (D, "SIB index 5 means none", "if s / 8 % 8 == 4 {", "if s / 8 % 8 == 5 {"),
     (D, "SIB base 5 never means EBP", "if (b % 8 == 5) & (md == 0) {", "if b % 8 == 5 {"),
-    (N, "an 8-bit displacement without sign", "value: extend(b.value),", "value: b.value,"),
+    (N, "an 8-bit displacement without sign", "    alu::signed_byte(x)\n", "    x\n"),
     (M, "AH to BH write the low byte", "if n / 4 % 2 == 1 {\n        return old", "if n / 4 % 2 == 2 {\n        return old"),
     (M, "EFLAGS bit 3 is allowed", "(e / 8 % 2 == 0)", "true"),
     (E, "LEA of a register is built", "Class::LoadAddress => 192 <= m,", "Class::LoadAddress => false,"),

@@ -7,7 +7,6 @@ mod stairs;
 mod table;
 mod verdict;
 
-use arrayvec::ArrayVec;
 use journal::Voice;
 pub use row::{Due, Row};
 use std::io;
@@ -15,26 +14,36 @@ use std::io::Write;
 use text::Counted;
 
 // The rows of the passes so far: there is room for as many as edits can name, and one more.
-#[derive(Drop)]
+// Stays: an array with how many of it are rows, since bills are copied, and arrayvec's list has no Copy.
+#[derive(Clone, Copy)]
 pub struct Rows {
-    passes: ArrayVec<Row, 64>,
+    passes: [Row; 64],
+    count: usize,
 }
 
 impl Rows {
     pub fn new() -> Rows {
         Rows {
-            passes: ArrayVec::new(),
+            passes: [Row::default(); 64],
+            count: 0,
         }
     }
 
     // The row of the pass that has been played, below the others. Where there is no room it is left out.
     pub fn add(&mut self, row: Row) {
-        let _ = self.passes.try_push(row);
+        if self.count < self.passes.len() {
+            self.passes[self.count] = row;
+            self.count += 1;
+        }
+    }
+
+    fn all(&self) -> &[Row] {
+        &self.passes[..self.count.min(64)]
     }
 
     // Table and staircase up to a pass that the guest did not end by itself.
     pub fn break_off<W: Write>(&self, out: &mut W) -> io::Result<()> {
-        let rows = self.passes.as_slice();
+        let rows = self.all();
         table::print(out, rows)?;
         stairs::print(out, rows, false)?;
         let pass = rows.len();
@@ -52,7 +61,7 @@ impl Rows {
         waypoints: u32,
         differing: u32,
     ) -> io::Result<()> {
-        let rows = self.passes.as_slice();
+        let rows = self.all();
         let landed = rows.last().is_some_and(|row| row.done.sent == 0) & (differing == 0);
         match voice {
             Voice::Words => {

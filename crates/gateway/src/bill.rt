@@ -139,12 +139,13 @@ impl Flight<'_, '_, '_> {
         c: Cpu,
     ) -> io::Result<Option<Cpu>> {
         let due = self.edit(pass);
-        let Some(copies) = run::remembered(ask, self.mem, room)? else {
-            return Ok(None);
+        let found = run::remembered(ask, self.mem, room);
+        let Ok(Some(copies)) = &found else {
+            return found.map(|_| None);
         };
         account::begin(out, self.order.voice, pass, due)?;
-        let passed = self.play_row(out, &copies, due, c)?;
-        self.tell(out, &copies, passed)
+        let passed = self.play_row(out, copies, due, c)?;
+        self.tell(out, copies, passed)
     }
 
     // All passes, or up to the first that the guest does not end by itself.
@@ -202,6 +203,8 @@ fn check<R: Env + Files, W: Write, E: Write>(
     flight.passes(ask, out, room, c, last.wrapping_add(1))
 }
 
+// Kept apart from its caller: else a run of one pass has the room of a bill on its stack too.
+#[inline(never)]
 pub fn bill<R: Env + Files, W: Write, E: Write>(
     ask: &mut Ask<'_, R, E>,
     out: &mut W,

@@ -1,5 +1,5 @@
 // The files that an order names, read whole; a sentence where one cannot be used.
-ghost use Rattle.std.specs.Prelude.{◌≤◌, IfOk, length};
+ghost use Rattle.std.specs.Prelude.{◌≤◌, IfOk, IfSome, length};
 
 use crate::ask::{Argument, Ask};
 use crate::order::Order;
@@ -41,7 +41,9 @@ pub fn read<'b, R: Env + Files, E: Write>(
     ask: &mut Ask<'_, R, E>,
     a: Argument,
     b: &'b mut [u8],
-) -> io::Result<Option<&'b [u8]>> {
+) -> io::Result<Option<&'b [u8]>>
+    ensures { IfOk result (λ o. IfSome o (λ s. length s.now ≤ length b.old)) }
+{
     let Some(mut file) = ask.open(a)? else {
         return Ok(None);
     };

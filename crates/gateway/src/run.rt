@@ -64,9 +64,11 @@ pub fn run<R: Env + Files, W: Write, E: Write>(
     let Some(ready) = files::prepare(ask, mem, o)? else {
         return Ok(());
     };
-    let Some(copies) = remembered(ask, mem, room)? else {
-        return Ok(());
+    // By reference: the copies' numbers take four kibibytes of the stack wherever they are moved to.
+    let found = remembered(ask, mem, room);
+    let Ok(Some(copies)) = &found else {
+        return found.map(|_| ());
     };
     report::heading(out, o.voice, ready.bytes, o.load, o.size, o.budget)?;
-    one_pass(out, mem, &copies, ready.cpu, o)
+    one_pass(out, mem, copies, ready.cpu, o)
 }

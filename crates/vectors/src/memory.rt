@@ -126,7 +126,11 @@ pub fn is_left(case: &[u8], left: Reader<'_>, mem: &mut Memory, want: &mut Memor
 
 // Was all memory clear? It is afterwards.
 pub fn swept(mem: &mut Memory) -> bool {
-    let clean = mem.iter().all(|x| *x == 0);
-    mem.fill(0);
-    clean
+    // No way out before the end, and one pass: a test that can leave at each byte, and a fill after it, took four times as long.
+    let mut seen = 0;
+    for x in mem.iter_mut() {
+        seen |= *x;
+        *x = 0;
+    }
+    seen == 0
 }
