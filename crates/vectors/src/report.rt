@@ -2,18 +2,20 @@
 use std::io::Write;
 use std::{fmt, io};
 
+// The names of the families, each as wide as its column, so that it goes out in one write.
 const NAMES: [&str; 48] = [
-    "ADD", "OR", "ADC", "SBB", "AND", "SUB", "XOR", "CMP", "TEST", "NOT", "NEG", "MUL", "IMUL",
-    "DIV", "IDIV", "INC", "DEC", "CONVERT", "MOV", "MOVZX", "MOVSX", "LEA", "XCHG", "PUSH", "POP",
-    "SHL", "SHR", "SAR", "Jcc", "SETcc", "JMP", "CALL", "RET", "LOOP", "FLAGS", "LAHF", "INT",
-    "HLT", "FAULT6", "UNBUILT", "MARKS", "ORDER", "WRAP", "LENGTH", "RECORD", "MAPS", "RUN",
-    "AUDIT",
+    "ADD     ", "OR      ", "ADC     ", "SBB     ", "AND     ", "SUB     ", "XOR     ", "CMP     ",
+    "TEST    ", "NOT     ", "NEG     ", "MUL     ", "IMUL    ", "DIV     ", "IDIV    ", "INC     ",
+    "DEC     ", "CONVERT ", "MOV     ", "MOVZX   ", "MOVSX   ", "LEA     ", "XCHG    ", "PUSH    ",
+    "POP     ", "SHL     ", "SHR     ", "SAR     ", "Jcc     ", "SETcc   ", "JMP     ", "CALL    ",
+    "RET     ", "LOOP    ", "FLAGS   ", "LAHF    ", "INT     ", "HLT     ", "FAULT6  ", "UNBUILT ",
+    "MARKS   ", "ORDER   ", "WRAP    ", "LENGTH  ", "RECORD  ", "MAPS    ", "RUN     ", "AUDIT   ",
 ];
 
-// The name of a family, in a column of eight.
+// The name of a family.
 fn name<W: Write>(out: &mut W, family: u8) -> io::Result<()> {
     match NAMES.get(usize::from(family)) {
-        Some(name) => write!(out, "{name:<8}"),
+        Some(name) => out.write_all(name.as_bytes()),
         None => Ok(()),
     }
 }
@@ -112,8 +114,8 @@ impl Tally {
 // A directed case's line. Its rule stands from byte 22 on of what it asks.
 pub fn line<W: Write>(out: &mut W, family: u8, asks: &[u8], same: bool) -> io::Result<()> {
     name(out, family)?;
-    let verdict = if same { "agrees" } else { "DIFFERS" };
-    write!(out, " {verdict}: ")?;
+    let verdict = if same { " agrees: " } else { " DIFFERS: " };
+    out.write_all(verdict.as_bytes())?;
     if let Some(rule) = asks.get(22..) {
         out.write_all(rule)?;
     }
