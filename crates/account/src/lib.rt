@@ -14,7 +14,7 @@ use std::io::Write;
 use text::Counted;
 
 // The rows of the passes so far: there is room for as many as edits can name, and one more.
-// Stays: an array with how many of it are rows, since bills are copied, and arrayvec's list has no Copy.
+// Stays: an array with how many of it are rows, since the type has Copy, as before the design pass, and arrayvec's list has none.
 #[derive(Clone, Copy)]
 pub struct Rows {
     passes: [Row; 64],
